@@ -1,0 +1,176 @@
+use ax_upcast::{Act, Chain, GivenField, GivenFields, Template, Templates, Upcaster, is_few};
+use ax_values::{Duplicate, Given, Name, Payload, Record, Text, Value};
+use std::alloc::Global;
+use std::test::Fail;
+
+fn name(alloc: Global, text: &[u8]) -> Result<Name, Fail> {
+    Ok(Name::read(alloc, text)?.ok_or("not a name")?)
+}
+
+fn payload(alloc: Global, text: &[u8]) -> Result<Payload, Fail> {
+    Ok(Payload::read(alloc, text)?.ok_or("not a payload")?)
+}
+
+fn copy_of(alloc: Global, field: &[u8], from: &[u8]) -> Result<GivenField, Fail> {
+    Ok(GivenField {
+        name: name(alloc, field)?,
+        given: Given::Copy(name(alloc, from)?),
+    })
+}
+
+fn rule(alloc: Global, kind: &[u8], act: Act) -> Result<Upcaster, Fail> {
+    Ok(Upcaster {
+        kind: name(alloc, kind)?,
+        revision: 1,
+        act,
+    })
+}
+
+/// The items as `NAME KIND PAYLOAD`, each on a line.
+fn text_of(alloc: Global, rules: Vec<Upcaster>, event: &Record) -> Result<Vec<u8>, Fail> {
+    let mut text = Vec::new(alloc);
+    if !is_few(alloc, &rules)? {
+        return Ok(text);
+    }
+    let chain = Chain::of(rules).copy(alloc)?;
+    for item in chain.upcast(alloc, event)?.parts() {
+        item.name.write(alloc, &mut text)?;
+        text.push(b' ')?;
+        item.kind.write(&mut text)?;
+        text.push(b' ')?;
+        item.payload.write(alloc, &mut text)?;
+        text.push(b'\n')?;
+    }
+    Ok(text)
+}
+
+fn bought(alloc: Global) -> Result<Record, Fail> {
+    Ok(Record {
+        aggregate: name(alloc, b"card-1")?,
+        seq: 4,
+        kind: name(alloc, b"bought")?,
+        revision: 1,
+        payload: payload(alloc, b"amount=100 fee=5")?,
+    })
+}
+
+#[test]
+fn a_purchase_becomes_two_items(rt: HostRuntime) -> Result<(), Fail> {
+    let alloc = rt.alloc();
+    let issued = Template {
+        kind: name(alloc, b"issued")?,
+        revision: 1,
+        fields: GivenFields::of(vec![in alloc; copy_of(alloc, b"amount", b"amount")?]?),
+    };
+    let redeemed = Template {
+        kind: name(alloc, b"redeemed")?,
+        revision: 1,
+        fields: GivenFields::of(vec![in alloc;
+            copy_of(alloc, b"amount", b"fee")?,
+            copy_of(alloc, b"to", b"to")?,
+        ]?),
+    };
+    let rules = vec![in alloc;
+        rule(
+            alloc,
+            b"bought",
+            Act::Split(Templates::of(vec![in alloc; issued, redeemed]?))
+        )?,
+    ]?;
+    let text = text_of(alloc, rules, &bought(alloc)?)?;
+    assert_eq!(rt;
+        text.as_slice(),
+        b"card-1.4.0 issued amount=100\ncard-1.4.1 redeemed amount=5\n".as_slice()
+    );
+    Ok(())
+}
+
+#[test]
+fn fields_are_renamed_and_added(rt: HostRuntime) -> Result<(), Fail> {
+    let alloc = rt.alloc();
+    let rename = Act::Rename {
+        old: name(alloc, b"amount")?,
+        new: name(alloc, b"value")?,
+        revision: 1,
+    };
+    let present = Act::Default {
+        name: name(alloc, b"fee")?,
+        value: Value::Int(9),
+        revision: 1,
+    };
+    let absent = Act::Default {
+        name: name(alloc, b"from")?,
+        value: Value::Text(Text::of(Vec::new(alloc))),
+        revision: 1,
+    };
+    let retype = Act::Retype {
+        kind: name(alloc, b"sold")?,
+        revision: 2,
+    };
+    let rules = vec![in alloc;
+        rule(alloc, b"bought", rename)?,
+        rule(alloc, b"bought", present)?,
+        rule(alloc, b"bought", absent)?,
+        rule(alloc, b"bought", retype)?,
+        rule(alloc, b"sold", Act::Remove)?,
+    ]?;
+    let text = text_of(alloc, rules, &bought(alloc)?)?;
+    assert_eq!(rt;
+        text.as_slice(),
+        b"card-1.4.0 sold fee=5 from=\"\" value=100\n".as_slice()
+    );
+    Ok(())
+}
+
+#[test]
+fn removed_events_give_no_items(rt: HostRuntime) -> Result<(), Fail> {
+    let alloc = rt.alloc();
+    let rules = vec![in alloc; rule(alloc, b"bought", Act::Remove)?]?;
+    let text = text_of(alloc, rules, &bought(alloc)?)?;
+    assert_eq!(rt; text.as_slice(), b"".as_slice());
+    Ok(())
+}
+
+#[test]
+fn nine_items_are_too_many(rt: HostRuntime) -> Result<(), Fail> {
+    let alloc = rt.alloc();
+    let mut parts = Vec::new(alloc);
+    for _ in 0..3 {
+        parts.push(Template {
+            kind: name(alloc, b"bought")?,
+            revision: 1,
+            fields: GivenFields::new(alloc),
+        })?;
+    }
+    let mut rules = Vec::new(alloc);
+    rules.push(rule(alloc, b"bought", Act::Split(Templates::of(parts)))?)?;
+    assert!(rt; is_few(alloc, &rules)?);
+    let again = rules.as_slice().first().ok_or("no rule")?.copy(alloc)?;
+    rules.push(again)?;
+    assert!(rt; !is_few(alloc, &rules)?);
+    Ok(())
+}
+
+// A name that goes onto a field takes its place; where the name is missing, only the revision changes.
+#[test]
+fn names_that_are_there_and_missing(rt: HostRuntime) -> Result<(), Fail> {
+    let alloc = rt.alloc();
+    let onto = Act::Rename {
+        old: name(alloc, b"amount")?,
+        new: name(alloc, b"fee")?,
+        revision: 1,
+    };
+    let missing = Act::Rename {
+        old: name(alloc, b"price")?,
+        new: name(alloc, b"value")?,
+        revision: 3,
+    };
+    let rules = vec![in alloc;
+        rule(alloc, b"bought", onto)?,
+        rule(alloc, b"bought", missing)?,
+        rule(alloc, b"bought", Act::Remove)?,
+    ]?;
+    let text = text_of(alloc, rules, &bought(alloc)?)?;
+    assert_eq!(rt; text.as_slice(), b"card-1.4.0 bought fee=100\n".as_slice());
+    Ok(())
+}

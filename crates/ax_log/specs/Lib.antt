@@ -1,0 +1,4 @@
+pub mod Log
+pub mod Order
+pub mod Puts
+pub mod Answers

@@ -1,0 +1,129 @@
+ghost use Rattle.std.specs.Prelude.{◌≡◌, ◌≤◌, ℕ, List, Option, Some, None, min, length, take, drop, vec_len, IsErr};
+ghost use Rattle.std.specs.Io.{ReadsAtMost};
+ghost use Rattle.std.specs.Io.KnownBytes.{ReadConsumes};
+ghost use Rattle.ax_ports.specs.Ports.{HasCause};
+
+use crate::Failed;
+use crate::calls::Calls;
+use std::io::Read;
+
+/// Gives bytes.
+pub trait Source {
+    /// The bytes that are left, where the source tells them.
+    ghost left: { Self → Option (List ℕ) };
+
+    /// How often it has failed.
+    ghost faults: { Self → ℕ };
+
+    /// Moves some of the bytes that are left into the front of the room, and says how many.
+    /// Where there is room, 0 is the end. At a failure no byte is taken.
+    fn read(&mut self, room: &mut [u8]) -> Result<usize, Failed>
+        ensures bound { ReadsAtMost result room.new }
+        ensures bytes { ReadConsumes (left self.old) (left self.new) result room.new }
+        ensures cause { HasCause (faults self.old) (faults self.new) result };
+}
+
+/// Bytes in memory. The calls with these numbers fail.
+#[derive(Drop)]
+pub struct MemorySource {
+    bytes: Vec<u8>,
+    position: usize,
+    calls: Calls,
+    ghost in_range: { position ≤ vec_len bytes },
+}
+
+impl MemorySource {
+    ghost use Rattle.ax_ports.specs.Memory.{source_left, source_faults, source_fails, source_calls};
+
+    /// A source of these bytes. It fails at the calls with these numbers, counted from 0.
+    pub fn new(bytes: Vec<u8>, fails: Vec<u32>) -> MemorySource
+        ensures left { source_left result ≡ bytes.items }
+        ensures faults { source_faults result ≡ 0 }
+        ensures fails { source_fails result ≡ fails.items }
+        ensures calls { source_calls result ≡ 0 }
+    {
+        MemorySource {
+            bytes,
+            position: 0,
+            calls: Calls::new(fails),
+        }
+    }
+}
+
+impl Source for MemorySource {
+    ghost use Rattle.std.specs.Prelude.{Some, ◌≡◌, ◌==◌, is_err};
+    ghost use Rattle.std.specs.List.{list_any};
+    ghost use Rattle.std.specs.Io.{ReadsAtMost};
+    ghost use Rattle.std.specs.Io.KnownBytes.{ReadConsumes};
+    ghost use Rattle.ax_ports.specs.Ports.{HasCause, one_more};
+    ghost use Rattle.ax_ports.specs.Memory.{source_left, source_faults, source_fails, source_calls};
+
+    ghost left = { λ s. Some (source_left s) };
+
+    ghost faults = { λ s. source_faults s };
+
+    fn read(&mut self, room: &mut [u8]) -> Result<usize, Failed>
+        ensures bound { ReadsAtMost result room.new }
+        ensures bytes { ReadConsumes (Some (source_left self.old)) (Some (source_left self.new)) result room.new }
+        ensures cause { HasCause (source_faults self.old) (source_faults self.new) result }
+        ensures fails { is_err result ≡ list_any (λ number. number == source_calls self.old) (source_fails self.old) }
+        ensures calls { (source_calls self.new ≡ one_more (source_calls self.old)) × (source_fails self.new ≡ source_fails self.old) }
+    {
+        self.calls.next()?;
+        let count = copy_front(&self.bytes[self.position..], room);
+        self.position += count;
+        Ok(count)
+    }
+}
+
+// Copies as many bytes as fit.
+fn copy_front(from: &[u8], room: &mut [u8]) -> usize
+    ensures count { result ≡ min (length from.now) (length room.old) }
+    ensures front { take result room.new ≡ take result from.now }
+{
+    let count = from.len().min(room.len());
+    room[..count].copy_from_slice(&from[..count]);
+    count
+}
+
+/// A reader of std, or none, at which each read fails. It tells nothing of its bytes.
+#[derive(Drop)]
+pub struct StdSource<R> {
+    reader: Option<R>,
+    faults: u64,
+}
+
+impl<R: Read> StdSource<R> {
+    ghost use Rattle.ax_ports.specs.Memory.{std_source_faults};
+
+    /// A source over the reader, without faults so far.
+    pub fn new(reader: Option<R>) -> StdSource<R>
+        ensures { std_source_faults result ≡ 0 }
+    {
+        StdSource { reader, faults: 0 }
+    }
+
+    fn fail(&mut self) -> Result<usize, Failed>
+        ensures cause { HasCause self.old.faults self.new.faults result }
+        ensures fails { IsErr result }
+    {
+        self.faults = self.faults.saturating_add(1);
+        Err(Failed)
+    }
+}
+
+impl<R: Read> Source for StdSource<R> {
+    ghost left = { λ s. None };
+
+    ghost faults = { λ s. s.faults };
+
+    fn read(&mut self, room: &mut [u8]) -> Result<usize, Failed> {
+        let Some(reader) = &mut self.reader else {
+            return self.fail();
+        };
+        match reader.read(room) {
+            Ok(count) => Ok(count),
+            Err(_) => self.fail(),
+        }
+    }
+}

@@ -1,0 +1,9 @@
+pub mod Cause
+pub mod Expr
+pub mod ExprCode
+pub mod Nodes
+pub mod Falls
+pub mod Guards
+pub mod Rules
+pub mod SagaRules
+pub mod Why

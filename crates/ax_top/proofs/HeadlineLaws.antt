@@ -1,0 +1,97 @@
+-- From the answer that was given to the clauses of the program's call.
+use Rattle.std.proofs.Common.{◌≡◌, ◌<◌, ◌+◌, ℕ, true, false, List, [], length, replicate, Option, Some, None, Result, Ok, Err, MatchResult, refl, sym, ap, subst, ◌∙◌, arith}
+use Rattle.std.specs.Prelude.{IfSome, IfOk, nat_lt}
+use Rattle.std.specs.Io.KnownBytes.{Keeps}
+use Rattle.std.proofs.lemmas.Bool.Decides.{nat_tests}
+use Rattle.ax_values.specs.declared.memory.NoMemory.{NoMemory}
+use Rattle.ax_top.specs.declared.plan.ScriptKind.TheVariants.{Long}
+use Rattle.ax_top.specs.declared.status.Status.{Status}
+use Rattle.ax_top.specs.declared.status.Status.TheVariants.{Done, Usage, Script, ReadFault, WriteFault, KeeperFault, BadRows, OtherSheet, Memory}
+use Rattle.ax_top.specs.Script.{most_bytes, fault, script_of}
+use Rattle.ax_top.specs.Run.{Answer, is_run, usage_text, script_answer, answer}
+use Rattle.ax_top.specs.declared.answer.Answered.{Answered}
+use Rattle.ax_top.specs.Answered.{answer_of}
+use Rattle.std.proofs.lemmas.List.{length-replicate}
+use Rattle.ax_top.specs.Headline.{Given, Answers, IsDelivered}
+
+pub answer-usage : (words : List (List ℕ)) (bytes : List ℕ) → is_run words ≡ false → answer words bytes ≡ record { status = Usage; text = usage_text }
+unfolding answer
+answer-usage words bytes no_run = rw no_run refl
+
+pub answer-run : (words : List (List ℕ)) (bytes : List ℕ) → is_run words ≡ true → answer words bytes ≡ script_answer (script_of bytes)
+unfolding answer
+answer-run words bytes run = rw run refl
+
+pub script_of-long : (bytes : List ℕ) → most_bytes < length bytes → script_of bytes ≡ fault 0 Long
+unfolding script_of
+script_of-long bytes long = let e : nat_lt most_bytes (length bytes) ≡ true = grind (arith, nat_tests) in rw e refl
+
+-- the status of a message is its own
+pub given-usage : (s : Status) (text : List ℕ) (old new : Option (List ℕ)) (before now : ℕ) → IsDelivered s → Given (record { status = Usage; text = text }) s old new before now → s ≡ Usage
+given-usage Done text old new before now d g = absurd (let e : Usage ≡ Done = g.0 in cc)
+given-usage Usage text old new before now d g = refl
+given-usage Script text old new before now d g = absurd (let e : Usage ≡ Script = g.0 in cc)
+given-usage ReadFault text old new before now d g = absurd d
+given-usage WriteFault text old new before now d g = absurd (let e : Usage ≡ Done = g.0 in cc)
+given-usage KeeperFault text old new before now d g = absurd d
+given-usage BadRows text old new before now d g = absurd d
+given-usage OtherSheet text old new before now d g = absurd d
+given-usage Memory text old new before now d g = absurd d
+
+pub delivered-not_read : (s : Status) → IsDelivered s → s ≡ ReadFault → ⊥
+delivered-not_read s d e = subst IsDelivered e d
+
+pub given-script : (r : Result Answered NoMemory) (a : Answer) (s : Status) (old new : Option (List ℕ)) (before now : ℕ) → IfOk r (λ x. answer_of x ≡ a)
+    → MatchResult r (λ x. Given (answer_of x) s old new before now) (λ _. (s ≡ Memory) × Keeps old new) → Given a s old new before now
+given-script (Ok x) a s old new before now e g = subst (λ (b : Answer). Given b s old new before now) e g
+given-script (Err x) a s old new before now e g = subst (λ (t : Status). Given a t old new before now) (sym g.0) g.1
+
+pub script-not_read : (r : Result Answered NoMemory) (s : Status) → MatchResult r (λ _. IsDelivered s) (λ _. s ≡ Memory) → s ≡ ReadFault → ⊥
+script-not_read (Ok x) s d e = delivered-not_read s d e
+script-not_read (Err x) s d e = let both : Memory ≡ ReadFault = sym d ∙ e in cc
+
+-- the bytes that are told, if any
+abbrev told : Option (List ℕ) → List ℕ
+told None = []
+told (Some bytes) = bytes
+
+told-is : (left : Option (List ℕ)) → IfSome left (λ all. all ≡ told left)
+told-is None = tt
+told-is (Some bytes) = refl
+
+more_than : (n : ℕ) → (bytes : List ℕ) × (n < length bytes)
+more_than n = (replicate (n + 1) 0, omega (arith, length-replicate {A = ℕ} (n + 1) 0))
+
+-- bytes that are too long, and told where the source tells any
+too_long : (n : ℕ) (left : Option (List ℕ)) → IfSome left (λ bytes. n < length bytes) → (bytes : List ℕ) × IfSome left (λ all. all ≡ bytes) × (n < length bytes)
+too_long n None known = ((more_than n).0, tt, (more_than n).1)
+too_long n (Some bytes) known = (bytes, refl, known)
+
+keeps-same : (o : Option (List ℕ)) → Keeps o o
+keeps-same None = tt
+keeps-same (Some bytes) = refl
+
+-- the ways to an answer
+pub answered-read_fault : (words : List (List ℕ)) (left taken : Option (List ℕ)) (count : ℕ) → Answers words left ReadFault taken taken count count
+answered-read_fault words left taken count = (told left, told-is left, keeps-same taken)
+
+pub answered-memory : (words : List (List ℕ)) (left taken : Option (List ℕ)) (count : ℕ) → Answers words left Memory taken taken count count
+answered-memory words left taken count = (told left, told-is left, keeps-same taken)
+
+pub answered-usage : (words : List (List ℕ)) (left : Option (List ℕ)) (s : Status) (old new : Option (List ℕ)) (before now : ℕ) → is_run words ≡ false
+    → Given (record { status = Usage; text = usage_text }) s old new before now → Answers words left s old new before now
+answered-usage words left s old new before now no_run g =
+    (told left, told-is left, subst (λ (a : Answer). Given a s old new before now) (sym (answer-usage words (told left) no_run)) g)
+
+pub answered-script : (words : List (List ℕ)) (left : Option (List ℕ)) (all : List ℕ) (r : Result Answered NoMemory) (s : Status) (old new : Option (List ℕ)) (before now : ℕ) → is_run words ≡ true
+    → IfSome left (λ bytes. bytes ≡ all) → IfOk r (λ x. answer_of x ≡ script_answer (script_of all))
+    → MatchResult r (λ x. Given (answer_of x) s old new before now) (λ _. (s ≡ Memory) × Keeps old new) → Answers words left s old new before now
+answered-script words left all r s old new before now run known e g =
+    (all, known, subst (λ (a : Answer). Given a s old new before now) (sym (answer-run words all run)) (given-script r (script_answer (script_of all)) s old new before now e g))
+
+pub answered-long : (words : List (List ℕ)) (left : Option (List ℕ)) (r : Result Answered NoMemory) (s : Status) (old new : Option (List ℕ)) (before now : ℕ) → is_run words ≡ true
+    → IfSome left (λ bytes. most_bytes < length bytes) → IfOk r (λ x. answer_of x ≡ script_answer (fault 0 Long))
+    → MatchResult r (λ x. Given (answer_of x) s old new before now) (λ _. (s ≡ Memory) × Keeps old new) → Answers words left s old new before now
+answered-long words left r s old new before now run known e g =
+    let long = too_long most_bytes left known in
+    (long.0, long.1, subst (λ (a : Answer). Given a s old new before now) (sym (answer-run words long.0 run ∙ ap script_answer (script_of-long long.0 long.2))) (given-script r (script_answer (fault 0 Long)) s old new before now e g))

@@ -1,0 +1,5 @@
+pub mod Script
+pub mod Run
+pub mod Reading
+pub mod Answered
+pub mod Headline

@@ -1,0 +1,3 @@
+pub mod Upcast
+pub mod Fields
+pub mod Forms

@@ -1,0 +1,6 @@
+-- the copies so far equal what they copy
+use Rattle.std.proofs.Common.{◌≡◌, take}
+use Rattle.ax_values.proofs.list.copy_all.Given as goal
+
+abbrev pub invariant-loop-item : goal.invariant-loop-item
+invariant-loop-item g l = l.copies.items ≡ take l.item-index l.items

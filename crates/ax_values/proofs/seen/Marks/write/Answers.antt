@@ -1,0 +1,8 @@
+use Rattle.std.proofs.lemmas.Result.{on_ok_weaker}
+use Rattle.ax_values.proofs.Seens.{marks_in-marks_text}
+use Rattle.ax_values.proofs.seen.Marks.write.Goals as goal
+
+pub returns-clause-again : goal.returns-clause-again
+returns-clause-again c =
+    rw c.whole_or_none.ensures.value (on_ok_weaker c.write_bracketed-written.result
+    (λ h p. marks_in-marks_text c.args.self.now (h p) c.parts.ensures.rising) (rw c.parts.ensures.value at c.write_bracketed-written.ensures.again))

@@ -1,0 +1,9 @@
+use Rattle.std.proofs.Common.{length}
+use Rattle.ax_values.proofs.Seens.{IsReadTo}
+use Rattle.ax_values.proofs.seen.read_pieces.Given as goal
+
+abbrev pub invariant-loop-first : goal.invariant-loop-first
+invariant-loop-first l = IsReadTo l.marks.items l.rest l.text
+
+abbrev pub decreases-loop-first : goal.decreases-loop-first
+decreases-loop-first l = length l.rest
