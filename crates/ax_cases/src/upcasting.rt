@@ -85,36 +85,44 @@ fn a_purchase_becomes_two_items(rt: HostRuntime) -> Result<(), Fail> {
     Ok(())
 }
 
+fn rename(alloc: Global, old: &[u8], new: &[u8], revision: u32) -> Result<Act, Fail> {
+    Ok(Act::Rename {
+        old: name(alloc, old)?,
+        new: name(alloc, new)?,
+        revision,
+    })
+}
+
+fn default(alloc: Global, field: &[u8], value: Value) -> Result<Act, Fail> {
+    Ok(Act::Default {
+        name: name(alloc, field)?,
+        value,
+        revision: 1,
+    })
+}
+
+fn retype(alloc: Global, kind: &[u8]) -> Result<Act, Fail> {
+    Ok(Act::Retype {
+        kind: name(alloc, kind)?,
+        revision: 2,
+    })
+}
+
+fn changes(alloc: Global) -> Result<Vec<Upcaster>, Fail> {
+    let mut rules = Vec::new(alloc);
+    let empty = Value::Text(Text::of(Vec::new(alloc)));
+    rules.push(rule(alloc, b"bought", rename(alloc, b"amount", b"value", 1)?)?)?;
+    rules.push(rule(alloc, b"bought", default(alloc, b"fee", Value::Int(9))?)?)?;
+    rules.push(rule(alloc, b"bought", default(alloc, b"from", empty)?)?)?;
+    rules.push(rule(alloc, b"bought", retype(alloc, b"sold")?)?)?;
+    rules.push(rule(alloc, b"sold", Act::Remove)?)?;
+    Ok(rules)
+}
+
 #[test]
 fn fields_are_renamed_and_added(rt: HostRuntime) -> Result<(), Fail> {
     let alloc = rt.alloc();
-    let rename = Act::Rename {
-        old: name(alloc, b"amount")?,
-        new: name(alloc, b"value")?,
-        revision: 1,
-    };
-    let present = Act::Default {
-        name: name(alloc, b"fee")?,
-        value: Value::Int(9),
-        revision: 1,
-    };
-    let absent = Act::Default {
-        name: name(alloc, b"from")?,
-        value: Value::Text(Text::of(Vec::new(alloc))),
-        revision: 1,
-    };
-    let retype = Act::Retype {
-        kind: name(alloc, b"sold")?,
-        revision: 2,
-    };
-    let rules = vec![in alloc;
-        rule(alloc, b"bought", rename)?,
-        rule(alloc, b"bought", present)?,
-        rule(alloc, b"bought", absent)?,
-        rule(alloc, b"bought", retype)?,
-        rule(alloc, b"sold", Act::Remove)?,
-    ]?;
-    let text = text_of(alloc, rules, &bought(alloc)?)?;
+    let text = text_of(alloc, changes(alloc)?, &bought(alloc)?)?;
     assert_eq!(rt;
         text.as_slice(),
         b"card-1.4.0 sold fee=5 from=\"\" value=100\n".as_slice()
@@ -155,21 +163,10 @@ fn nine_items_are_too_many(rt: HostRuntime) -> Result<(), Fail> {
 #[test]
 fn names_that_are_there_and_missing(rt: HostRuntime) -> Result<(), Fail> {
     let alloc = rt.alloc();
-    let onto = Act::Rename {
-        old: name(alloc, b"amount")?,
-        new: name(alloc, b"fee")?,
-        revision: 1,
-    };
-    let missing = Act::Rename {
-        old: name(alloc, b"price")?,
-        new: name(alloc, b"value")?,
-        revision: 3,
-    };
-    let rules = vec![in alloc;
-        rule(alloc, b"bought", onto)?,
-        rule(alloc, b"bought", missing)?,
-        rule(alloc, b"bought", Act::Remove)?,
-    ]?;
+    let mut rules = Vec::new(alloc);
+    rules.push(rule(alloc, b"bought", rename(alloc, b"amount", b"fee", 1)?)?)?;
+    rules.push(rule(alloc, b"bought", rename(alloc, b"price", b"value", 3)?)?)?;
+    rules.push(rule(alloc, b"bought", Act::Remove)?)?;
     let text = text_of(alloc, rules, &bought(alloc)?)?;
     assert_eq!(rt; text.as_slice(), b"card-1.4.0 bought fee=100\n".as_slice());
     Ok(())
