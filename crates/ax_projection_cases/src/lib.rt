@@ -1,0 +1,5 @@
+//! Cases of tables of rows and their rebuild.
+#![tactic(auto)]
+
+#[cfg(test)]
+mod projections;

@@ -1,0 +1,4 @@
+pub mod TableLaws
+pub mod RowLaws
+pub mod NameLaws
+pub mod RebuildLaws

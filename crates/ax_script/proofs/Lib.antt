@@ -1,0 +1,5 @@
+mod Queues
+mod Declared
+mod Standing
+mod Pieces
+mod WorkedScripts

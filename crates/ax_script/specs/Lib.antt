@@ -1,0 +1,10 @@
+pub mod Declarations
+pub mod Lines
+pub mod Queues
+pub mod Forms
+pub mod Judging
+pub mod Plans
+pub mod Reading
+pub mod Formed
+pub mod Stands
+pub mod Read

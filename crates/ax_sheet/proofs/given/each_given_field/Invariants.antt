@@ -1,0 +1,11 @@
+use Rattle.std.proofs.Common.{◌≡◌}
+use Rattle.serde_json.specs.View.{members_view}
+use Rattle.ax_values.proofs.Lists.{behind}
+use Rattle.ax_sheet.specs.Names.{takes}
+use Rattle.ax_sheet.specs.Shape.{given_field_of}
+use Rattle.ax_sheet.specs.Members.{each_member}
+use Rattle.ax_sheet.proofs.given.each_given_field.Given as goal
+
+-- those so far, in front of those of the members that are left
+abbrev pub invariant-loop-key : goal.invariant-loop-key
+invariant-loop-key l = behind l.fields (each_member (given_field_of (takes l.names)) (members_view l.key-iterator)) ≡ each_member (given_field_of (takes l.names)) (members_view l.members.entries)

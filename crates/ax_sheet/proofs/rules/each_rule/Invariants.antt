@@ -1,0 +1,10 @@
+use Rattle.std.proofs.Common.{◌≡◌}
+use Rattle.serde_json.specs.View.{members_view}
+use Rattle.ax_values.proofs.Lists.{behind}
+use Rattle.ax_sheet.specs.Shape.{rule_of}
+use Rattle.ax_sheet.specs.Members.{each_member}
+use Rattle.ax_sheet.proofs.rules.each_rule.Given as goal
+
+-- those so far, in front of those of the members that are left
+abbrev pub invariant-loop-key : goal.invariant-loop-key
+invariant-loop-key l = behind l.rules (each_member (rule_of l.announcing l.fields) (members_view l.key-iterator)) ≡ each_member (rule_of l.announcing l.fields) (members_view l.members.entries)
