@@ -169,7 +169,7 @@ fn gives(
 
 #[test]
 fn items_change_rows(rt: HostRuntime) -> Result<(), Fail> {
-    let text = Text::of(Vec::new(rt.alloc()));
+    let text = Text::of(rt.alloc(), b"")?.ok_or("not a text")?;
     gives(&rt, b"redeemed", Some(Value::Int(30)), b"70")?;
     gives(&rt, b"redeemed", Some(Value::Int(101)), b"guard 0")?;
     gives(&rt, b"redeemed", None, b"missing amount")?;

@@ -110,7 +110,7 @@ fn retype(alloc: Global, kind: &[u8]) -> Result<Act, Fail> {
 
 fn changes(alloc: Global) -> Result<Vec<Upcaster>, Fail> {
     let mut rules = Vec::new(alloc);
-    let empty = Value::Text(Text::of(Vec::new(alloc)));
+    let empty = Value::Text(Text::of(alloc, b"")?.ok_or("not a text")?);
     rules.push(rule(alloc, b"bought", rename(alloc, b"amount", b"value", 1)?)?)?;
     rules.push(rule(alloc, b"bought", default(alloc, b"fee", Value::Int(9))?)?)?;
     rules.push(rule(alloc, b"bought", default(alloc, b"from", empty)?)?)?;

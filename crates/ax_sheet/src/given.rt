@@ -1,7 +1,5 @@
 ghost use Rattle.std.specs.Prelude.{◌≡◌, IfOk};
-ghost use Rattle.std.specs.List.{list_all};
 ghost use Rattle.serde_json.specs.View.{view, items_view, members_view};
-ghost use Rattle.ax_values.specs.Grammar.{is_text_byte, is_content};
 ghost use Rattle.ax_sheet.specs.Members.{each_item, each_member};
 ghost use Rattle.ax_sheet.specs.Names.{takes};
 ghost use Rattle.ax_sheet.specs.Sheet.{are_parts};
@@ -15,25 +13,6 @@ use ax_values::{Given, Name, NoMemory, Text, Value};
 use serde_json::{Map, Value as Json};
 use std::alloc::Global;
 
-fn is_text_byte(byte: u8) -> bool
-    ensures { result ≡ is_text_byte byte }
-{
-    byte >= 32 && byte <= 126 && byte != b'"' && byte != b'\\'
-}
-
-fn are_text_bytes(text: &[u8]) -> bool
-    ensures { result ≡ list_all is_text_byte text.now }
-{
-    text.iter().all(|&byte| is_text_byte(byte))
-}
-
-/// Whether the bytes may stand between the quotes of a text.
-fn is_content(text: &[u8]) -> bool
-    ensures { result ≡ is_content text.now }
-{
-    are_text_bytes(text) && text.len() <= 64
-}
-
 /// A copy where the text is `$` and a name, else the text.
 fn given_text(alloc: Global, names: Names, text: &[u8]) -> Result<Option<Given>, NoMemory>
     ensures { IfOk result (λ given. given ≡ given_text (takes names.entry) text.now (copied text.now)) }
@@ -41,11 +20,7 @@ fn given_text(alloc: Global, names: Names, text: &[u8]) -> Result<Option<Given>,
     match copied(alloc, text)? {
         Some(name) if names.takes(&name) => Ok(Some(Given::Copy(name))),
         Some(_) => Ok(None),
-        None if is_content(text) => {
-            let content = Text::of(Vec::from_slice(alloc, text)?);
-            Ok(Some(Given::Just(Value::Text(content))))
-        }
-        None => Ok(None),
+        None => Ok(Text::of(alloc, text)?.map(|content| Given::Just(Value::Text(content)))),
     }
 }
 

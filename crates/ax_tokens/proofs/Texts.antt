@@ -15,7 +15,7 @@ use Rattle.ax_tokens.specs.Plain.{Plain, is_canonical_plain}
 use Rattle.ax_tokens.specs.Tokens.{Token, plain, merged, replay, depth, is_canonical, is_small}
 use Rattle.ax_tokens.specs.TokenText.{gaps_text, plain_text, token_text, Found, digits_step, digits_at, after_byte, closed_gaps_at, gaps_by, gaps_at, canonical_at, plain_at, plain_token_at, replay_at, halves_at, token_by, token_with, half_at, token_at, max_depth, whole, token_in}
 use Rattle.ax_tokens.proofs.Gaps.{canonical-below}
-use Rattle.ax_tokens.proofs.Pieces.{pieces-commas, commas-pieces, pieces-filled}
+use Rattle.ax_values.proofs.Pieces.{pieces-commas, commas-pieces, pieces-filled}
 
 -- ---- what is read is written so
 

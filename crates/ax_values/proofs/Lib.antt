@@ -8,6 +8,7 @@ pub mod Items
 pub mod Lists
 pub mod Lines
 pub mod Payloads
+pub mod Pieces
 pub mod Seens
 pub mod Gluing
 mod WordTexts

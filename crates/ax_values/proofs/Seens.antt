@@ -6,82 +6,24 @@ use Rattle.std.specs.Str.{bytes_eq}
 use Rattle.std.proofs.lemmas.Bool.Decides.{nat_tests}
 use Rattle.std.proofs.lemmas.List.{append-nil}
 use Rattle.std.proofs.lemmas.Slice.Eq.{bytes_eq-Decides}
-use Rattle.ax_values.specs.Grammar.{Line, Cut, when, each_in, in_front, piece_step, pieces, cut_step, cut_at, between, small_in, ◌>>=◌}
+use Rattle.ax_values.specs.Grammar.{Line, when, each_in, pieces, between, small_in, ◌>>=◌}
 use Rattle.ax_values.specs.Words.{rises, mark_below}
 use Rattle.ax_values.specs.Readers.{mark_in}
 use Rattle.ax_values.specs.Seen.{comma_led, commas, bracketed, mark_text, marks_text, parked_text, seen_words, comma_pieces, marks_in, parked_in, seen_in}
 use Rattle.ax_values.specs.declared.seen.Mark.{Mark}
 use Rattle.ax_values.specs.declared.seen.Seen.{Seen}
-use Rattle.ax_values.proofs.Options.{both, and-true, not-true, when-true, when-some, then-some}
+use Rattle.ax_values.proofs.Options.{both, and-true, when-true, when-some, then-some}
 use Rattle.ax_values.proofs.Numbers.{number_to-decimal, from_number_to}
-use Rattle.ax_values.proofs.Cuts.{lacks, same_byte, from_cut, between-append, from_between}
+use Rattle.ax_values.proofs.Cuts.{lacks, between-append, from_between}
 use Rattle.ax_values.proofs.Items.{lacks-decimal, from_mark}
-use Rattle.ax_values.proofs.Lists.{behind, behind-read, behind-unread, map-each_in, all-each_in}
+use Rattle.ax_values.proofs.Lists.{map-each_in, all-each_in}
+use Rattle.ax_values.proofs.Pieces.{pieces-commas, commas-pieces}
 
--- ---- pieces
-
-pieces-one : (w : Line) (sep : ℕ) → lacks sep w ≡ true → pieces sep w ≡ w ∷ []
-pieces-one [] sep h = refl
-pieces-one (c ∷ w) sep h =
-    let p = both (not (c == sep)) (lacks sep w) h in
-    ap (λ b. piece_step b c (pieces sep w)) (not-true (c == sep) p.0) ∙ ap (in_front c) (pieces-one w sep p.1)
-
-pieces-append : (w : Line) (sep : ℕ) (rest : Line) → lacks sep w ≡ true → pieces sep (w ++ sep ∷ rest) ≡ w ∷ pieces sep rest
-pieces-append [] sep rest h = ap (λ b. piece_step b sep (pieces sep rest)) (same_byte sep)
-pieces-append (c ∷ w) sep rest h =
-    let p = both (not (c == sep)) (lacks sep w) h in
-    ap (λ b. piece_step b c (pieces sep (w ++ sep ∷ rest))) (not-true (c == sep) p.0) ∙ ap (in_front c) (pieces-append w sep rest p.1)
-
-pieces-cut : (sep : ℕ) (w : Line) (t : Cut) → cut_at sep w ≡ Some t → pieces sep w ≡ t.before ∷ pieces sep t.after
-pieces-cut sep w t h =
-    let c = from_cut sep w t h in
-    ap (pieces sep) (sym c.whole) ∙ pieces-append t.before sep t.after c.lacking
-
-uncut-step : (b : Bool) (c : ℕ) (cs : Line) (later : Option Cut) → cut_step b c cs later ≡ None → (b ≡ false) × (later ≡ None)
-uncut-step true c cs later h = cc
-uncut-step false c cs None h = (refl, refl)
-uncut-step false c cs (Some t) h = cc
-
-pieces-uncut : (sep : ℕ) (w : Line) → cut_at sep w ≡ None → pieces sep w ≡ w ∷ []
-pieces-uncut sep [] h = refl
-pieces-uncut sep (c ∷ cs) h =
-    let p = uncut-step (c == sep) c cs (cut_at sep cs) h in
-    ap (λ b. piece_step b c (pieces sep cs)) p.0 ∙ ap (in_front c) (pieces-uncut sep cs p.1)
-
-pieces-commas : (ws : List Line) (w : Line) → list_all (lacks 44) (w ∷ ws) ≡ true → pieces 44 (commas (w ∷ ws)) ≡ w ∷ ws
-pieces-commas [] w h = ap (pieces 44) (append-nil w) ∙ pieces-one w 44 (both (lacks 44 w) true h).0
-pieces-commas (v ∷ ws) w h =
-    let p = both (lacks 44 w) (list_all (lacks 44) (v ∷ ws)) h in
-    pieces-append w 44 (commas (v ∷ ws)) p.0 ∙ ap (λ t. w ∷ t) (pieces-commas ws v p.1)
-
-led-step : (b : Bool) (c : ℕ) (ws : List Line) → comma_led (piece_step b c ws) ≡ 44 ∷ commas (piece_step b c ws)
-led-step true c ws = refl
-led-step false c [] = refl
-led-step false c (w ∷ ws) = refl
-
-led-pieces : (cs : Line) → comma_led (pieces 44 cs) ≡ 44 ∷ commas (pieces 44 cs)
-led-pieces [] = refl
-led-pieces (c ∷ cs) = led-step (c == 44) c (pieces 44 cs)
-
-commas-front : (c : ℕ) (ws : List Line) → commas (in_front c ws) ≡ c ∷ commas ws
-commas-front c [] = refl
-commas-front c (w ∷ ws) = refl
-
-commas-step : (b : Bool) (c : ℕ) (ws : List Line) → (c == 44) ≡ b → comma_led ws ≡ 44 ∷ commas ws → commas (piece_step b c ws) ≡ c ∷ commas ws
-commas-step true c ws e h =
-    let comma : 44 ≡ c = grind (arith, nat_tests) in
-    h ∙ ap (λ c. c ∷ commas ws) comma
-commas-step false c ws e h = commas-front c ws
-
-commas-pieces : (cs : Line) → commas (pieces 44 cs) ≡ cs
-commas-pieces [] = refl
-commas-pieces (c ∷ cs) = commas-step (c == 44) c (pieces 44 cs) refl (led-pieces cs) ∙ ap (λ t. c ∷ t) (commas-pieces cs)
+-- ---- marks
 
 commas-comma_pieces : (cs : Line) → commas (comma_pieces cs) ≡ cs
 commas-comma_pieces [] = refl
 commas-comma_pieces (c ∷ cs) = commas-pieces (c ∷ cs)
-
--- ---- marks
 
 lacks-append : (sep : ℕ) (x y : Line) → lacks sep x ≡ true → lacks sep y ≡ true → lacks sep (x ++ y) ≡ true
 lacks-append sep [] y h k = k
@@ -179,29 +121,8 @@ from_seen (n ∷ p ∷ ms ∷ []) s h =
     subst (λ s. seen_words s ≡ n ∷ p ∷ ms ∷ []) is_seen
     (ap (λ n. n ∷ parked_text r.from ∷ marks_text t.from ∷ []) number ∙ ap (λ p. n ∷ p ∷ marks_text t.from ∷ []) parked ∙ ap (λ ms. n ∷ p ∷ ms ∷ []) marks)
 
--- ---- loops
+-- ---- a loop
 
 -- what is written, with one mark more
 pub led-next : (out : Line) (k : Mark) (ks : List Mark) → ((out ++ 44 ∷ []) ++ mark_text k) ++ comma_led (map mark_text ks) ≡ out ++ comma_led (map mark_text (k ∷ ks))
 led-next out k ks = simp append_assoc
-
--- of a loop that reads one piece after another: the marks so far, in front of those of the rest, are those of the text
-abbrev pub IsReadTo : List Mark → Line → Line → Type 0
-IsReadTo ks rest text = behind ks (each_in mark_in (pieces 44 rest)) ≡ each_in mark_in (pieces 44 text)
-
-pub piece-read : (ks : List Mark) (k : Mark) (rest text : Line) (t : Cut) → IsReadTo ks rest text → cut_at 44 rest ≡ Some t → mark_in t.before ≡ Some k → IsReadTo (ks ++ k ∷ []) t.after text
-piece-read ks k rest text t h e m =
-    sym (behind-read mark_in ks k t.before (pieces 44 t.after) m) ∙ ap (λ ws. behind ks (each_in mark_in ws)) (sym (pieces-cut 44 rest t e)) ∙ h
-
-pub piece-unread : (ks : List Mark) (rest text : Line) (t : Cut) → IsReadTo ks rest text → cut_at 44 rest ≡ Some t → mark_in t.before ≡ None → None ≡ each_in mark_in (pieces 44 text)
-piece-unread ks rest text t h e m =
-    sym (behind-unread mark_in ks t.before (pieces 44 t.after) m) ∙ ap (λ ws. behind ks (each_in mark_in ws)) (sym (pieces-cut 44 rest t e)) ∙ h
-
-pub last-read : (ks : List Mark) (k : Mark) (rest text : Line) → IsReadTo ks rest text → cut_at 44 rest ≡ None → mark_in rest ≡ Some k → Some (ks ++ k ∷ []) ≡ each_in mark_in (pieces 44 text)
-last-read ks k rest text h e m =
-    ap Some (sym (append-nil (ks ++ k ∷ [])))
-    ∙ sym (behind-read mark_in ks k rest [] m) ∙ ap (λ ws. behind ks (each_in mark_in ws)) (sym (pieces-uncut 44 rest e)) ∙ h
-
-pub last-unread : (ks : List Mark) (rest text : Line) → IsReadTo ks rest text → cut_at 44 rest ≡ None → mark_in rest ≡ None → None ≡ each_in mark_in (pieces 44 text)
-last-unread ks rest text h e m =
-    sym (behind-unread mark_in ks rest [] m) ∙ ap (λ ws. behind ks (each_in mark_in ws)) (sym (pieces-uncut 44 rest e)) ∙ h

@@ -1,6 +1,6 @@
 ghost use Rattle.std.specs.Prelude.{◌≡◌, ◌++◌, length, take, option_map, Some, IfOk, IfSome, IsTrue, OnOk, OnErr};
 ghost use Rattle.std.specs.List.{list_all};
-ghost use Rattle.ax_values.specs.Grammar.{IsReadBack, is_text_byte, is_content, text_in};
+ghost use Rattle.ax_values.specs.Grammar.{IsReadBack, when, is_text_byte, is_content, text_in};
 ghost use Rattle.ax_values.specs.Words.{quoted};
 
 use crate::{Duplicate, NoMemory, between, whole_or_none};
@@ -28,12 +28,16 @@ impl Model for Text {
 }
 
 impl Text {
-    /// The text of these bytes, without quotes.
-    pub fn of(parts: Vec<u8>) -> Text
-        requires { IsTrue (is_content parts.items) }
-        ensures { result ≡ parts.items }
+    /// The text whose bytes, without quotes, these are. None comes exactly where they are no content of a text.
+    pub fn of(alloc: Global, parts: &[u8]) -> Result<Option<Text>, NoMemory>
+        ensures { IfOk result (λ text. text ≡ when (is_content parts.now) parts.now) }
     {
-        Text { bytes: parts }
+        if is_content(parts) {
+            let bytes = Vec::from_slice(alloc, parts)?;
+            Ok(Some(Text { bytes }))
+        } else {
+            Ok(None)
+        }
     }
 
     /// The bytes between the quotes.

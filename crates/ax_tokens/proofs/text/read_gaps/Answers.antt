@@ -1,6 +1,6 @@
 use Rattle.std.proofs.Common.{sym}
 use Rattle.ax_values.specs.Grammar.{small_in}
-use Rattle.ax_tokens.proofs.Pieces.{piece-read, piece-unread, last-read, last-unread}
+use Rattle.ax_values.proofs.Pieces.{piece-read, piece-unread, last-read, last-unread}
 use Rattle.ax_tokens.proofs.text.read_gaps.Goals as goal
 
 pub returns-in_default-read_small : goal.returns-in_default-read_small

@@ -1,6 +1,6 @@
 use Rattle.std.proofs.Common.{length}
 use Rattle.ax_values.specs.Grammar.{small_in}
-use Rattle.ax_tokens.proofs.Pieces.{IsReadTo}
+use Rattle.ax_values.proofs.Pieces.{IsReadTo}
 use Rattle.ax_tokens.proofs.text.read_gaps.Given as goal
 
 abbrev pub invariant-loop-first : goal.invariant-loop-first
