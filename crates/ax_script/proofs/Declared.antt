@@ -6,7 +6,7 @@ use Rattle.std.proofs.lemmas.List.Folds.{list_any-append}
 use Rattle.ax_values.specs.Grammar.{Name}
 use Rattle.ax_values.specs.Words.{same_name, place_where}
 use Rattle.ax_values.proofs.Options.{both, and-true, not-true}
-use Rattle.ax_script.specs.Declarations.{names_differ}
+use Rattle.ax_sheet.specs.Declarations.{names_differ}
 
 pub no-either : (a b : Bool) → (a || b) ≡ false → (a ≡ false) × (b ≡ false)
 no-either true b h = cc

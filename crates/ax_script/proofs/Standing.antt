@@ -8,7 +8,7 @@ use Rattle.std.specs.Prelude.{cond, slice_get}
 use Rattle.ax_values.specs.Grammar.{Name}
 use Rattle.ax_values.proofs.Options.{both, and-true, not-true}
 use Rattle.ax_sheet.specs.Sheet.{Sheet}
-use Rattle.ax_script.specs.Declarations.{most_processors, most_actors, names_differ, is_segment_count, is_actor_name}
+use Rattle.ax_sheet.specs.Declarations.{most_processors, most_actors, names_differ, is_segment_count, is_actor_name}
 use Rattle.ax_sheet.specs.declared.parts.Processor.{Processor}
 use Rattle.ax_journal.specs.declared.form.Form.{Form}
 use Rattle.ax_journal.specs.declared.order.Order.{Order}

@@ -1,6 +1,6 @@
 -- What the form of a line says of it.
 use Rattle.std.specs.Prelude.{◌≡◌, IsTrue}
-use Rattle.ax_script.specs.Declarations.{is_segment_count, is_actor_name}
+use Rattle.ax_sheet.specs.Declarations.{is_segment_count, is_actor_name}
 use Rattle.ax_journal.specs.Orders.{stops_last}
 use Rattle.ax_script.specs.declared.line.Part.{Part}
 use Rattle.ax_script.specs.declared.line.ScriptLine.{ScriptLine}

@@ -1,4 +1,3 @@
-pub mod Declarations
 pub mod Lines
 pub mod Queues
 pub mod Forms

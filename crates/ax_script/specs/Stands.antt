@@ -1,7 +1,7 @@
 -- What holds of all that has been read of a script without a fault.
 use Rattle.std.specs.Prelude.{◌≡◌, ◌≤◌, ◌<◌, Bool, true, false, [], length, map, count_by, IsTrue}
 use Rattle.std.specs.List.{list_all}
-use Rattle.ax_script.specs.Declarations.{is_segment_count, names_differ, most_actors, most_processors, is_actor_name}
+use Rattle.ax_sheet.specs.Declarations.{is_segment_count, names_differ, most_actors, most_processors, is_actor_name}
 use Rattle.ax_journal.specs.Orders.{stops_last}
 use Rattle.ax_script.specs.declared.line.Part.{Part}
 use Rattle.ax_script.specs.declared.line.ScriptLine.{ScriptLine}

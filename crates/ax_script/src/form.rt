@@ -1,6 +1,6 @@
 ghost use Rattle.std.specs.Prelude.{◌≡◌, [], ◌∷◌, map, IfOk, IfSome, IsTrue};
 ghost use Rattle.ax_values.specs.Grammar.{each_in, name_in};
-ghost use Rattle.ax_script.specs.Declarations.{is_segment_count};
+ghost use Rattle.ax_sheet.specs.Declarations.{is_segment_count};
 ghost use Rattle.ax_script.specs.Forms.{form_in, sheet_at, segments_in, processor_kind_in, actor_in, head_in, order_in, orders_in};
 ghost use Rattle.ax_script.specs.Formed.{IsFormed};
 

@@ -1,7 +1,7 @@
 ghost use Rattle.std.specs.Prelude.{◌≡◌, ◌≤◌, ◌<◌, ◌^◌, ◌&&◌, [], ◌∷◌, length, map, option_copied, IfOk};
 ghost use Rattle.std.specs.List.{list_all};
 ghost use Rattle.ax_values.specs.Words.{same_name};
-ghost use Rattle.ax_script.specs.Declarations.{is_of_sheet, same_flag};
+ghost use Rattle.ax_sheet.specs.Declarations.{is_of_sheet, same_flag};
 ghost use Rattle.ax_journal.specs.Form.{is_built};
 ghost use Rattle.ax_journal.specs.Orders.{is_stop};
 ghost use Rattle.ax_script.specs.Queues.{times_of, schedule_fits};

@@ -5,3 +5,4 @@ pub mod Shape
 pub mod Decision
 pub mod Cards
 pub mod Text
+pub mod Declarations
