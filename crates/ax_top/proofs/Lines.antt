@@ -7,7 +7,7 @@ use Rattle.std.proofs.lemmas.List.{append-nil, length-append, length-drop}
 use Rattle.std.proofs.lemmas.List.Splits.{slice_split_first}
 use Rattle.std.proofs.lemmas.Bool.{ltb-true, ltb-false}
 use Rattle.std.proofs.lemmas.Bool.Decides.{nat_tests}
-use Rattle.ax_world.specs.declared.order.Order.{Order}
+use Rattle.ax_first_world.specs.declared.order.Order.{Order}
 use Rattle.ax_top.specs.declared.plan.ScriptFault.{ScriptFault}
 use Rattle.ax_top.specs.declared.plan.ScriptFault.TheVariants as script_fault
 use Rattle.ax_top.specs.declared.plan.ScriptKind.TheVariants.{Cut, Later, Limit}

@@ -1,8 +1,8 @@
 -- A run, one step after another.
 use Rattle.std.proofs.Common.{◌≡◌, ℕ, List, ◌∷◌, ◌++◌, ap, sym, ◌∙◌, subst, append_assoc}
-use Rattle.ax_world.specs.declared.order.Order.{Order}
-use Rattle.ax_world.specs.Machine.{State, Outcome, step}
-use Rattle.ax_world.specs.Text.{entry_text, run_text}
+use Rattle.ax_first_world.specs.declared.order.Order.{Order}
+use Rattle.ax_first_world.specs.Machine.{State, Outcome, step}
+use Rattle.ax_first_world.specs.Text.{entry_text, run_text}
 
 pub run_goes_on : (actor : List ℕ) (m : State) (order : Order) (left : List Order) (o : Outcome) (front total : List ℕ) → o ≡ step m order
     → front ++ run_text actor m (order ∷ left) ≡ total → (front ++ entry_text actor order o.reply o.report) ++ run_text actor o.state left ≡ total

@@ -3,9 +3,9 @@ use Rattle.std.proofs.Common.{◌≡◌, [], ◌∷◌, refl}
 use Rattle.std.specs.Prelude.{codes}
 use Rattle.std.specs.Fmt.{digits}
 use Rattle.ax_top.specs.declared.status.Status.TheVariants as status
-use Rattle.ax_world.specs.Rows.{card_of, rows_of}
-use Rattle.ax_world.specs.Machine.{step}
-use Rattle.ax_world.specs.Text.{entry_text, run_text}
+use Rattle.ax_first_world.specs.Rows.{card_of, rows_of}
+use Rattle.ax_first_world.specs.Machine.{step}
+use Rattle.ax_first_world.specs.Text.{entry_text, run_text}
 use Rattle.ax_top.specs.Script.{do_order, work_order, order_words, order_line, line_at, fixed, actor_at, orders_at, preamble_at, head_at, script_of}
 use Rattle.ax_top.specs.Run.{answer}
 

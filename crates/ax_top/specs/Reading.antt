@@ -1,7 +1,7 @@
 -- What a reader of the code returns, against what the definitions read.
 use Rattle.std.specs.Prelude.{◌≡◌, List, [], ◌∷◌, Option, Some, None, Result, Ok, Err}
-use Rattle.ax_world.specs.declared.order.Order.{Order}
-use Rattle.ax_world.specs.declared.order.Order.TheVariants.{Send, Append, Claim, Fetch, Commit, ShowRows}
+use Rattle.ax_first_world.specs.declared.order.Order.{Order}
+use Rattle.ax_first_world.specs.declared.order.Order.TheVariants.{Send, Append, Claim, Fetch, Commit, ShowRows}
 use Rattle.ax_top.specs.declared.plan.ScriptFault.{ScriptFault}
 use Rattle.ax_top.specs.declared.plan.ScriptFault.TheVariants as script_fault
 use Rattle.ax_top.specs.Script.{Fault}

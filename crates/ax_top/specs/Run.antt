@@ -4,12 +4,12 @@ use Rattle.std.specs.Fmt.{decimal}
 use Rattle.std.specs.Str.{bytes_eq}
 use Rattle.ax_top.specs.declared.plan.ScriptKind.{ScriptKind}
 use Rattle.ax_top.specs.declared.plan.ScriptKind.TheVariants.{Long, Cut, Later, Limit}
-use Rattle.ax_world.specs.declared.order.Order.{Order}
+use Rattle.ax_first_world.specs.declared.order.Order.{Order}
 use Rattle.ax_top.specs.declared.status.Status.{Status}
 use Rattle.ax_top.specs.declared.status.Status.TheVariants as status
-use Rattle.ax_world.specs.Machine.{start}
+use Rattle.ax_first_world.specs.Machine.{start}
 use Rattle.ax_top.specs.Script.{Fault, script_of}
-use Rattle.ax_world.specs.Text.{run_text}
+use Rattle.ax_first_world.specs.Text.{run_text}
 
 -- the single word `run`
 abbrev pub is_run : List (List ℕ) → Bool

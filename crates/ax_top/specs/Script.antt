@@ -4,10 +4,10 @@ use Rattle.std.specs.List.{slice_split}
 use Rattle.std.specs.Option.{option_map}
 use Rattle.std.specs.Str.{bytes_eq}
 use Rattle.ax_values.specs.Grammar.{name_in, number_in, int_in}
-use Rattle.ax_world.specs.declared.order.Command.{Command}
-use Rattle.ax_world.specs.declared.order.Command.TheVariants.{Issue, Redeem}
-use Rattle.ax_world.specs.declared.order.Order.{Order}
-use Rattle.ax_world.specs.declared.order.Order.TheVariants.{Send, Append, Claim, Fetch, Commit, ShowRows}
+use Rattle.ax_first_world.specs.declared.order.Command.{Command}
+use Rattle.ax_first_world.specs.declared.order.Command.TheVariants.{Issue, Redeem}
+use Rattle.ax_first_world.specs.declared.order.Order.{Order}
+use Rattle.ax_first_world.specs.declared.order.Order.TheVariants.{Send, Append, Claim, Fetch, Commit, ShowRows}
 use Rattle.ax_top.specs.declared.plan.ScriptKind.{ScriptKind}
 use Rattle.ax_top.specs.declared.plan.ScriptKind.TheVariants.{Long, Cut, Later, Limit}
 

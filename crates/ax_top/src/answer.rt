@@ -1,7 +1,7 @@
 ghost use Rattle.std.specs.Prelude.{◌≡◌, ◌≤◌, length, vec_len, IfOk, Err};
-ghost use Rattle.ax_world.specs.Machine.{start};
+ghost use Rattle.ax_first_world.specs.Machine.{start};
 ghost use Rattle.ax_top.specs.Script.{most_bytes, script_of, Fault};
-ghost use Rattle.ax_world.specs.Text.{run_text};
+ghost use Rattle.ax_first_world.specs.Text.{run_text};
 ghost use Rattle.ax_top.specs.Run.{Answer, kind_text, fault_text, script_answer};
 ghost use Rattle.ax_top.specs.Answered.{answer_of};
 ghost use Rattle.ax_top.specs.Headline.{IsTold};
@@ -11,7 +11,7 @@ use crate::script::read_script;
 use crate::status::Status;
 use crate::text::write_entry;
 use ax_values::{NoMemory, write_number};
-use ax_world::World;
+use ax_first_world::World;
 use std::alloc::Global;
 
 /// A status, and the text that goes with it.

@@ -1,10 +1,10 @@
 ghost use Rattle.std.specs.Prelude.{◌≡◌, ◌++◌, OnOk};
 ghost use Rattle.std.specs.List.{flat_map};
 ghost use Rattle.std.specs.Fmt.{decimal};
-ghost use Rattle.ax_world.specs.Text.{command_text, order_text, reply_text, line_text, entry_text};
+ghost use Rattle.ax_first_world.specs.Text.{command_text, order_text, reply_text, line_text, entry_text};
 
 use ax_values::{Line, Name, NoMemory, write_int, write_number};
-use ax_world::{Command, Move, Order, Reply};
+use ax_first_world::{Command, Move, Order, Reply};
 use std::alloc::Global;
 
 fn command_text(command: Command) -> &'static [u8]
@@ -85,7 +85,7 @@ fn write_lines(lines: &[Line], out: &mut Vec<u8>) -> Result<(), NoMemory>
 }
 
 /// Adds the text of a step: the actor, its order, the reply and the lines of the report.
-#[tactic(auto, unfolding(ax_world::specs::Text::entry_text))]
+#[tactic(auto, unfolding(ax_first_world::specs::Text::entry_text))]
 pub(crate) fn write_entry(
     alloc: Global,
     actor: &Name,

@@ -1,8 +1,8 @@
 use Rattle.std.proofs.Common.{◌++◌, ◌∷◌, ◌+◌, List, ℕ, drop, ap, sym, ◌∙◌, arith}
 use Rattle.std.proofs.lemmas.List.{at_drop_more, at_drop_all, append-nil}
-use Rattle.ax_world.specs.declared.order.Order.{Order}
-use Rattle.ax_world.specs.Text.{run_text}
-use Rattle.ax_world.specs.Moves.{outcome}
+use Rattle.ax_first_world.specs.declared.order.Order.{Order}
+use Rattle.ax_first_world.specs.Text.{run_text}
+use Rattle.ax_first_world.specs.Moves.{outcome}
 use Rattle.ax_top.proofs.Runs.{run_goes_on}
 use Rattle.ax_top.proofs.answer.run.Goals as goal
 

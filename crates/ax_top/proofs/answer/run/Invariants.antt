@@ -1,6 +1,6 @@
 use Rattle.std.proofs.Common.{◌≡◌, ◌+◌, ◌≤◌, ◌++◌, drop}
-use Rattle.ax_world.specs.Machine.{start}
-use Rattle.ax_world.specs.Text.{run_text}
+use Rattle.ax_first_world.specs.Machine.{start}
+use Rattle.ax_first_world.specs.Text.{run_text}
 use Rattle.ax_top.proofs.answer.run.Given as goal
 
 abbrev pub invariant-loop-order : goal.invariant-loop-order

@@ -1,6 +1,6 @@
 use Rattle.std.proofs.Common.{◌≡◌, ◌++◌, take}
 use Rattle.std.specs.List.{flat_map}
-use Rattle.ax_world.specs.Text.{line_text}
+use Rattle.ax_first_world.specs.Text.{line_text}
 use Rattle.ax_top.proofs.text.write_lines.Given as goal
 
 abbrev pub invariant-loop-line : goal.invariant-loop-line

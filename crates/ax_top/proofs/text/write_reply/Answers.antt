@@ -1,8 +1,8 @@
 use Rattle.std.proofs.Common.{ℕ, List, ◌++◌, sym, ap, ◌∙◌}
 use Rattle.std.specs.Prelude.{codes}
 use Rattle.std.specs.Fmt.{decimal}
-use Rattle.ax_world.specs.declared.order.Reply.{Reply}
-use Rattle.ax_world.specs.Text.{reply_text}
+use Rattle.ax_first_world.specs.declared.order.Reply.{Reply}
+use Rattle.ax_first_world.specs.Text.{reply_text}
 use Rattle.ax_top.proofs.Runs.{two_parts}
 use Rattle.ax_top.proofs.text.write_reply.Goals as goal
 

@@ -1,10 +1,10 @@
 -- An order raises the counter of fences by one at most.
 use Rattle.std.proofs.Common.{◌+◌, ◌≤◌, true, false, cond, Some, None, arith}
-use Rattle.ax_world.specs.declared.order.Order.{Order}
-use Rattle.ax_world.specs.declared.order.Order.TheVariants.{Send, Append, Claim, Fetch, Commit, ShowRows}
-use Rattle.ax_world.specs.declared.order.Reply.TheVariants.{NotHeld}
-use Rattle.ax_world.specs.Rows.{card_of, decision}
-use Rattle.ax_world.specs.Machine.{State, replies, decided, appended, committed, fetched, bound, step}
+use Rattle.ax_first_world.specs.declared.order.Order.{Order}
+use Rattle.ax_first_world.specs.declared.order.Order.TheVariants.{Send, Append, Claim, Fetch, Commit, ShowRows}
+use Rattle.ax_first_world.specs.declared.order.Reply.TheVariants.{NotHeld}
+use Rattle.ax_first_world.specs.Rows.{card_of, decision}
+use Rattle.ax_first_world.specs.Machine.{State, replies, decided, appended, committed, fetched, bound, step}
 
 pub fence-step : (m : State) (order : Order) → (step m order).state.fence ≤ m.fence + 1
 unfolding step

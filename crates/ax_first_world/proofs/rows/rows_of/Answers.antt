@@ -1,6 +1,6 @@
 use Rattle.std.proofs.Common.{arith}
-use Rattle.ax_world.proofs.RowsLaws.{cover-bound, rows-cover}
-use Rattle.ax_world.proofs.rows.rows_of.Goals as goal
+use Rattle.ax_first_world.proofs.RowsLaws.{cover-bound, rows-cover}
+use Rattle.ax_first_world.proofs.rows.rows_of.Goals as goal
 
 pub put-requires : goal.put-requires
 put-requires c =

@@ -1,7 +1,7 @@
 -- What the world stands for, and what it keeps.
 use Rattle.std.specs.Prelude.{◌≤◌, length, IfSome}
-use Rattle.ax_world.specs.declared.world.World.TheInside.{Inside}
-use Rattle.ax_world.specs.Machine.{State}
+use Rattle.ax_first_world.specs.declared.world.World.TheInside.{Inside}
+use Rattle.ax_first_world.specs.Machine.{State}
 
 abbrev pub state_of : Inside → State
 state_of w =

@@ -1,5 +1,5 @@
-use Rattle.ax_world.specs.declared.world.Move.{Move}
-use Rattle.ax_world.specs.Machine.{State, Outcome}
+use Rattle.ax_first_world.specs.declared.world.Move.{Move}
+use Rattle.ax_first_world.specs.Machine.{State, Outcome}
 
 -- a state after a move, with the move's reply and report
 abbrev pub outcome : State → Move → Outcome

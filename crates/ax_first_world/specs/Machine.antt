@@ -1,11 +1,11 @@
 -- The machine of one thread: its state, and the reply to each order.
 use Rattle.std.specs.Prelude.{ℕ, ◌+◌, ◌-◌, min, Bool, true, false, if◌then◌else◌, List, [], ◌∷◌, ◌++◌, length, map, take, Option, Some, None}
-use Rattle.ax_world.specs.declared.order.Record.{Record}
-use Rattle.ax_world.specs.declared.order.Order.{Order}
-use Rattle.ax_world.specs.declared.order.Order.TheVariants.{Send, Append, Claim, Fetch, Commit, ShowRows}
-use Rattle.ax_world.specs.declared.order.Reply.{Reply}
-use Rattle.ax_world.specs.declared.order.Reply.TheVariants.{Sent, Appended, Claimed, Fetched, Committed, Lines, Guard, NoReservation, NotHeld, NoBatch}
-use Rattle.ax_world.specs.Rows.{items_of, card_of, decision, rows_of, row_text}
+use Rattle.ax_first_world.specs.declared.order.Record.{Record}
+use Rattle.ax_first_world.specs.declared.order.Order.{Order}
+use Rattle.ax_first_world.specs.declared.order.Order.TheVariants.{Send, Append, Claim, Fetch, Commit, ShowRows}
+use Rattle.ax_first_world.specs.declared.order.Reply.{Reply}
+use Rattle.ax_first_world.specs.declared.order.Reply.TheVariants.{Sent, Appended, Claimed, Fetched, Committed, Lines, Guard, NoReservation, NotHeld, NoBatch}
+use Rattle.ax_first_world.specs.Rows.{items_of, card_of, decision, rows_of, row_text}
 
 pub record State : Type 0 where
   -- the log

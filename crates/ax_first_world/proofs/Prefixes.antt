@@ -1,8 +1,8 @@
 -- The records of an aggregate among the first ones are its first ones.
 use Rattle.std.proofs.Common.{◌≡◌, ℕ, zero, suc, Bool, true, false, cond, List, [], ◌∷◌, length, take, refl, ap}
 use Rattle.std.specs.Str.{bytes_eq}
-use Rattle.ax_world.specs.declared.order.Record.{Record}
-use Rattle.ax_world.specs.Rows.{items_of}
+use Rattle.ax_first_world.specs.declared.order.Record.{Record}
+use Rattle.ax_first_world.specs.Rows.{items_of}
 
 one_more : (t : Bool) (r : Record) (xs ys : List Record) → xs ≡ take (length xs) ys → cond t (r ∷ xs) xs ≡ take (length (cond t (r ∷ xs) xs)) (cond t (r ∷ ys) ys)
 one_more true r xs ys e = ap (λ zs. r ∷ zs) e

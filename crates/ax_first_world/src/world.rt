@@ -1,7 +1,7 @@
 ghost use Rattle.std.specs.Prelude.{◌≡◌, ◌+◌, ◌<◌, ◌≤◌, ◌^◌, length, IfOk, OnOk, OnErr};
-ghost use Rattle.ax_world.specs.Machine.{State, Outcome, start, step, replies};
-ghost use Rattle.ax_world.specs.Moves.{outcome};
-ghost use Rattle.ax_world.specs.Laws.{RowsAreFoldsOfPrefixes};
+ghost use Rattle.ax_first_world.specs.Machine.{State, Outcome, start, step, replies};
+ghost use Rattle.ax_first_world.specs.Moves.{outcome};
+ghost use Rattle.ax_first_world.specs.Laws.{RowsAreFoldsOfPrefixes};
 
 use crate::cards::{card_of, count_of, decision};
 use crate::{Command, Order, Record, Reply, rows};
@@ -34,11 +34,11 @@ pub struct World {
 }
 
 impl Model for World {
-    ghost use Rattle.ax_world.specs.Machine.{State};
+    ghost use Rattle.ax_first_world.specs.Machine.{State};
 
     ghost Value = { State };
 
-    ghost use Rattle.ax_world.specs.World.{state_of, IsWorld};
+    ghost use Rattle.ax_first_world.specs.World.{state_of, IsWorld};
 
     ghost view = { state_of };
 

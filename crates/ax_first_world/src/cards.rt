@@ -1,5 +1,5 @@
 ghost use Rattle.std.specs.Prelude.{◌≡◌, length};
-ghost use Rattle.ax_world.specs.Rows.{apply_card, card_of, decision, items_of};
+ghost use Rattle.ax_first_world.specs.Rows.{apply_card, card_of, decision, items_of};
 
 use crate::{Card, Command, Record};
 use ax_values::Name;

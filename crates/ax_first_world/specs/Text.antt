@@ -2,13 +2,13 @@
 use Rattle.std.specs.Prelude.{ℕ, List, [], ◌∷◌, ◌++◌, codes}
 use Rattle.std.specs.List.{flat_map}
 use Rattle.std.specs.Fmt.{decimal, signed_decimal}
-use Rattle.ax_world.specs.declared.order.Command.{Command}
-use Rattle.ax_world.specs.declared.order.Command.TheVariants.{Issue, Redeem}
-use Rattle.ax_world.specs.declared.order.Order.{Order}
-use Rattle.ax_world.specs.declared.order.Order.TheVariants.{Send, Append, Claim, Fetch, Commit, ShowRows}
-use Rattle.ax_world.specs.declared.order.Reply.{Reply}
-use Rattle.ax_world.specs.declared.order.Reply.TheVariants.{Sent, Appended, Claimed, Fetched, Committed, Lines, Guard, NoReservation, NotHeld, NoBatch}
-use Rattle.ax_world.specs.Machine.{State, step}
+use Rattle.ax_first_world.specs.declared.order.Command.{Command}
+use Rattle.ax_first_world.specs.declared.order.Command.TheVariants.{Issue, Redeem}
+use Rattle.ax_first_world.specs.declared.order.Order.{Order}
+use Rattle.ax_first_world.specs.declared.order.Order.TheVariants.{Send, Append, Claim, Fetch, Commit, ShowRows}
+use Rattle.ax_first_world.specs.declared.order.Reply.{Reply}
+use Rattle.ax_first_world.specs.declared.order.Reply.TheVariants.{Sent, Appended, Claimed, Fetched, Committed, Lines, Guard, NoReservation, NotHeld, NoBatch}
+use Rattle.ax_first_world.specs.Machine.{State, step}
 
 abbrev pub command_text : Command → List ℕ
 command_text Issue = codes " issue amount="

@@ -17,10 +17,10 @@ use Rattle.std.proofs.lemmas.Slice.Eq.{bytes_eq-Decides}
 use Rattle.std.proofs.lemmas.List.Elements.{filter-append}
 use Rattle.std.proofs.lemmas.List.{append-nil, length-append, length-take, take_more}
 use Rattle.std.proofs.lemmas.List.Sums.{fold_push}
-use Rattle.ax_world.specs.declared.order.Record.{Record}
-use Rattle.ax_world.specs.declared.order.Balance.{Balance}
-use Rattle.ax_world.specs.Rows.{items_of, apply_balance, balance_of, insert_name, names_of, rows_of}
-use Rattle.ax_world.specs.Rows.{no_balance, with_record}
+use Rattle.ax_first_world.specs.declared.order.Record.{Record}
+use Rattle.ax_first_world.specs.declared.order.Balance.{Balance}
+use Rattle.ax_first_world.specs.Rows.{items_of, apply_balance, balance_of, insert_name, names_of, rows_of}
+use Rattle.ax_first_world.specs.Rows.{no_balance, with_record}
 
 abbrev cmp : List ℕ → List ℕ → Ordering
 cmp = slice_cmp nat_cmp

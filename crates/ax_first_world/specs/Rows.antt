@@ -5,11 +5,11 @@ use Rattle.std.specs.Ordering.{int_eq, nat_cmp}
 use Rattle.std.specs.Cmp.Lexicographic.{slice_cmp}
 use Rattle.std.specs.Fmt.{decimal, signed_decimal}
 use Rattle.std.specs.Str.{bytes_eq}
-use Rattle.ax_world.specs.declared.order.Record.{Record}
-use Rattle.ax_world.specs.declared.order.Card.{Card}
-use Rattle.ax_world.specs.declared.order.Balance.{Balance}
-use Rattle.ax_world.specs.declared.order.Command.{Command}
-use Rattle.ax_world.specs.declared.order.Command.TheVariants.{Issue, Redeem}
+use Rattle.ax_first_world.specs.declared.order.Record.{Record}
+use Rattle.ax_first_world.specs.declared.order.Card.{Card}
+use Rattle.ax_first_world.specs.declared.order.Balance.{Balance}
+use Rattle.ax_first_world.specs.declared.order.Command.{Command}
+use Rattle.ax_first_world.specs.declared.order.Command.TheVariants.{Issue, Redeem}
 
 -- whether a whole number is within 64 bits with sign
 abbrev pub fits : ℤ → Bool

@@ -2,7 +2,7 @@ ghost use Rattle.std.specs.Prelude.{◌≡◌, ◌+◌, ◌<◌, ◌^◌, ◌++�
 ghost use Rattle.std.specs.BTreeMap.{get, insert_entry};
 ghost use Rattle.std.specs.Cmp.Lexicographic.{slice_cmp};
 ghost use Rattle.std.specs.Ordering.{nat_cmp};
-ghost use Rattle.ax_world.specs.Rows.{apply_balance, row_text, rows_of, no_balance, with_record};
+ghost use Rattle.ax_first_world.specs.Rows.{apply_balance, row_text, rows_of, no_balance, with_record};
 
 use crate::{Balance, Command, Record};
 use ax_values::{Duplicate, Line, Name, NoMemory, write_int, write_number};

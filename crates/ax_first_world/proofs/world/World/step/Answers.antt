@@ -1,7 +1,7 @@
 use Rattle.std.proofs.Common.{ap, arith}
-use Rattle.ax_world.specs.Machine.{Outcome}
-use Rattle.ax_world.proofs.Fences.{fence-step}
-use Rattle.ax_world.proofs.world.World.step.Goals as goal
+use Rattle.ax_first_world.specs.Machine.{Outcome}
+use Rattle.ax_first_world.proofs.Fences.{fence-step}
+use Rattle.ax_first_world.proofs.world.World.step.Goals as goal
 
 pub returns-clause-fence : goal.returns-clause-fence
 returns-clause-fence c =
