@@ -1,5 +1,5 @@
 -- The place of a segment's row: a put there keeps the other rows and their order.
-use Rattle.std.proofs.Common.{◌≡◌, ℕ, zero, suc, ◌+◌, ◌<◌, ◌≤◌, ◌==◌, ◌&&◌, Bool, true, false, List, [], ◌∷◌, map, length, filter, Option, Some, None, slice_get, slice_set, if◌then◌else◌, refl, sym, ap, ◌∙◌, subst, arith, nat_lt}
+use Rattle.std.proofs.Common.{◌≡◌, ℕ, zero, suc, ◌+◌, ◌<◌, ◌≤◌, ◌==◌, ◌&&◌, Bool, true, false, List, [], ◌∷◌, map, length, filter, Option, Some, None, slice_get, slice_set, get_or, if◌then◌else◌, refl, sym, ap, ◌∙◌, subst, arith, nat_lt}
 use Rattle.std.specs.Cmp.{nat_cmp_is}
 use Rattle.std.specs.Ordering.{nat_cmp, ordering_then, match_ordering}
 use Rattle.std.specs.declared.cmp.Ordering.TheVariants.{Equal, Greater}
@@ -26,20 +26,28 @@ place-low [] p r h e = absurd (cc)
 place-low (x ∷ xs) zero r h e = omega arith
 place-low (x ∷ xs) (suc p) r h e = let a : x.segment.id + suc p ≤ r.segment.id = rises-above x xs p r h e in omega arith
 
--- ---- what is found
-
-pub record Found (s : Segment) (rows : List TokenRow) (p : ℕ) : Type 0 where
-  row : TokenRow
-  here : slice_get rows p ≡ Some row
-  at : row_at s rows ≡ Some row
-  segment : row.segment ≡ s
-  place : place_where (λ r. same_segment r.segment s) rows ≡ p
+pub get-read : {A : Type 0} (xs : List A) (p : ℕ) (x : A) → p < length xs → x ≡ get_or xs p x → slice_get xs p ≡ Some x
+get-read [] p x lt e = absurd (omega arith)
+get-read (y ∷ ys) zero x lt e = ap Some (sym e)
+get-read (y ∷ ys) (suc p) x lt e = get-read ys p x (omega arith) e
 
 same-segment : (s t : Segment) → same_segment s t ≡ true → s ≡ t
 same-segment s t h =
     let id : s.id ≡ t.id = grind (arith, nat_tests, (both (s.id == t.id) (s.mask == t.mask) h).0) in
     let mask : s.mask ≡ t.mask = grind (arith, nat_tests, (both (s.id == t.id) (s.mask == t.mask) h).1) in
     ap (λ i. record { id = i; mask = s.mask }) id ∙ ap (λ m. record { id = t.id; mask = m }) mask
+
+pub low-at : (xs : List TokenRow) (p : ℕ) (r : TokenRow) (s : Segment) → rises row_below xs ≡ true → p < length xs → r ≡ get_or xs p r → same_segment r.segment s ≡ true → p ≤ s.id
+low-at xs p r s h lt e same = subst (λ t. p ≤ t.id) (same-segment r.segment s same) (place-low xs p r h (get-read xs p r lt e))
+
+-- ---- what is found
+
+pub record Found (s : Segment) (rows : List TokenRow) (p : ℕ) : Type 0 where
+  pub row : TokenRow
+  pub here : slice_get rows p ≡ Some row
+  pub at : row_at s rows ≡ Some row
+  pub segment : row.segment ≡ s
+  pub place : place_where (λ r. same_segment r.segment s) rows ≡ p
 
 abbrev place_by : Bool → Segment → TokenRow → List TokenRow → Option ℕ
 place_by b s r rs = place_if (if b then Some r else row_at s rs) (if b then 0 else suc (place_where (λ r. same_segment r.segment s) rs))
@@ -125,7 +133,7 @@ matching-segments : (h : ℕ) (xs : List TokenRow) → length (filter (λ r. mat
 matching-segments h [] = refl
 matching-segments h (x ∷ xs) =
     elim (matches x.segment h) as (λ b. length (if b then x ∷ filter (λ r. matches r.segment h) xs else filter (λ r. matches r.segment h) xs)
-        ≡ length (if b then x.segment ∷ filter (λ s. matches s h) (map (λ r. r.segment) xs) else filter (λ s. matches s h) (map (λ r. r.segment) xs)))
+    ≡ length (if b then x.segment ∷ filter (λ s. matches s h) (map (λ r. r.segment) xs) else filter (λ s. matches s h) (map (λ r. r.segment) xs)))
     [ true ↦ ap suc (matching-segments h xs) | false ↦ matching-segments h xs ]
 
 pub rows-kept : (y : TokenRow) (xs : List TokenRow) (p : ℕ) (r : TokenRow) → AreRows xs → slice_get xs p ≡ Some r → y.segment ≡ r.segment → AreRows (slice_set xs p y)

@@ -1,6 +1,7 @@
 -- The first rows of a processor stand by id and match each hash once.
-use Rattle.std.proofs.Common.{◌≡◌, ℕ, zero, suc, ◌+◌, ◌-◌, ◌%◌, ◌==◌, ◌<◌, ◌≤◌, Bool, true, false, if◌then◌else◌, length, filter, None, IsTrue, List, [], ◌∷◌, ◌++◌, refl, sym, ap, ◌∙◌, subst, arith, nat_lt}
+use Rattle.std.proofs.Common.{◌≡◌, ℕ, zero, suc, ◌+◌, ◌-◌, ◌%◌, ◌==◌, ◌<◌, ◌≤◌, Bool, true, false, if◌then◌else◌, length, filter, None, IsTrue, List, [], ◌∷◌, refl, sym, ap, ◌∙◌, subst, arith, nat_lt}
 use Rattle.std.specs.Int.{is_power_of_two}
+use lib.Count.{ones}
 use Rattle.std.proofs.lemmas.Bool.Decides.{nat_tests}
 use Rattle.ax_values.specs.Words.{rises}
 use Rattle.ax_segments.specs.Segments.{matches}
@@ -52,3 +53,8 @@ are-starting (suc n) fence some = let e : suc n - 1 ≡ n = omega arith in subst
 pub rows-more : (n id mask fence : ℕ) → id < n → first_rows (n - id) id mask (fence + id) ≡ first_row id mask (fence + id) ∷ first_rows (n - (id + 1)) (id + 1) mask (fence + (id + 1))
 rows-more n id mask fence lt =
     let e : n - id ≡ suc (n - (id + 1)) = omega arith in let i : suc id ≡ id + 1 = omega arith in let f : suc (fence + id) ≡ fence + (id + 1) = omega arith in rw (e, i, f) refl
+
+pub some-segments : (n : ℕ) → IsTrue (is_power_of_two n) → 0 < n
+unfolding ones
+some-segments zero h = absurd (cc)
+some-segments (suc n) h = omega arith

@@ -50,7 +50,7 @@ stored s held t now rows = stored_row held t now rows (row_at s rows)
 -- ---- answers
 
 -- what stands after a change, and what it answers: a refusal changes nothing and gives back what was to be put
-abbrev pub IsChange : {A B : Type 0} → Result (List TokenRow) Refused → B → List TokenRow → List TokenRow → Result A (Refused × B) → Type 0
+abbrev pub IsChange : {B : Type 0} → Result (List TokenRow) Refused → B → List TokenRow → List TokenRow → Result (Unit {0}) (Refused × B) → Type 0
 IsChange (Ok rows) given old new (Ok done) = new ≡ rows
 IsChange (Ok rows) given old new (Err e) = ⊥
 IsChange (Err refused) given old new (Ok done) = ⊥

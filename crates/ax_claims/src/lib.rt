@@ -3,6 +3,8 @@
 
 mod refused;
 mod row;
+mod rows;
 
 pub use refused::Refused;
 pub use row::TokenRow;
+pub use rows::Rows;
