@@ -2,6 +2,7 @@
 use Rattle.std.specs.Prelude.{◌≡◌, ℕ, zero, suc, ◌+◌, ◌<◌, ◌≤◌, ◌⊎◌, Bool, true, false, not, IsTrue, IfSome, List, [], ◌∷◌, ◌++◌, map, length, filter, take, find, Option, Some, None, slice_get, if◌then◌else◌}
 use Rattle.std.specs.List.{AllByRecursion, list_all}
 use Rattle.std.proofs.Common.{refl, ap, sym, ◌∙◌, subst, inl, inr, ⊎_elim, arith}
+use Rattle.std.proofs.lemmas.List.{map-append}
 use Rattle.std.proofs.lemmas.Slice.Eq.{bytes_eq-Decides}
 use Rattle.ax_values.specs.Grammar.{Name}
 use Rattle.ax_values.specs.Words.{same_name}
@@ -169,9 +170,6 @@ stream-put a k zero rs cells n h le e =
 stream-put a k (suc i) rs [] n h le e = absurd (omega arith)
 stream-put a k (suc i) rs (c ∷ cs) n h le e = by c e (λ k' e'. stream-put a k' i rs cs n (λ j lt. let at : suc i + j ≡ suc (i + j) = omega arith in subst (λ (x : ℕ). option_is is_reserved (slice_get (c ∷ cs) x) ≡ true) at (h j lt)) (omega arith) e')
   where
-    here : ℕ → Type 0
-    here k' = length (filter (is_of a) (events_from k' (take i cs))) ≡ length (filter (is_of a) (events_from k' cs)) → filter (is_of a) (events_from k' (put_cells i (map Cell.Event rs) cs)) ≡ filter (is_of a) (events_from k' cs) ++ stored_at (k' + i) rs
-
     next : stored_at (suc k + i) rs ≡ stored_at (k + suc i) rs
     next = let at : suc k + i ≡ k + suc i = omega arith in ap (λ (j : ℕ). stored_at j rs) at
 
@@ -209,10 +207,6 @@ prefix-append : (bs cs : List Bool) → AllByRecursion (λ b. b ≡ false) cs �
 prefix-append [] cs h e = prefix-false cs h
 prefix-append (true ∷ bs) cs h e = prefix-append bs cs h e
 prefix-append (false ∷ bs) cs h e = not-append bs cs h e
-
-map-append : {A B : Type 0} (f : A → B) (xs ys : List A) → map f (xs ++ ys) ≡ map f xs ++ map f ys
-map-append f [] ys = refl
-map-append f (x ∷ xs) ys = ap (λ zs. f x ∷ zs) (map-append f xs ys)
 
 uncovered : (cells : List Cell) (ps : List Portion) (h i : ℕ) (rs : List Record) → AreTokens cells ps → Ready cells i (length rs) → AllByRecursion (λ b. b ≡ false) (map (λ e. covered_by ps h e.index) (stored_at i rs))
 uncovered cells ps h i [] all ready = tt

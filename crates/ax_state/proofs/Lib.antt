@@ -1,3 +1,4 @@
 pub mod Lists
 pub mod Grow
 pub mod Fill
+pub mod Puts

@@ -1,5 +1,5 @@
 -- What holds of each element, and counts, after a change at one place.
-use Rattle.std.specs.Prelude.{◌≡◌, ℕ, zero, suc, ◌+◌, ◌≤◌, Bool, true, false, List, [], ◌∷◌, Some, slice_get, slice_set}
+use Rattle.std.specs.Prelude.{◌≡◌, ℕ, zero, suc, ◌+◌, ◌≤◌, Bool, true, false, List, [], ◌∷◌, ◌++◌, filter, Option, Some, None, IfSome, slice_get, slice_set, if◌then◌else◌}
 use Rattle.std.specs.List.{AllByRecursion}
 use Rattle.std.proofs.Common.{refl, ap, sym, ◌∙◌, subst, subst₂, arith}
 use Rattle.std.specs.Ordering.{match_ordering}
@@ -27,6 +27,20 @@ All-put P cmp y [] h j = (j, tt)
 All-put P cmp y (x ∷ xs) h j =
     elim (cmp y x) as (λ o. AllByRecursion P (match_ordering o (y ∷ x ∷ xs) (y ∷ xs) (x ∷ put_rising cmp y xs)))
     [ Less ↦ (j, (h.0, h.1)) | Equal ↦ (j, h.1) | Greater ↦ (h.0, All-put P cmp y xs h.1 j) ]
+
+pub All-get : {A : Type 0} (P : A → Type 0) (xs : List A) (p : ℕ) (x : A) → AllByRecursion P xs → slice_get xs p ≡ Some x → P x
+All-get P [] p x h e = absurd (cc)
+All-get P (y ∷ ys) zero x h e = let is : y ≡ x = cc in subst P is h.0
+All-get P (y ∷ ys) (suc p) x h e = All-get P ys p x h.1 e
+
+pub All-filter : {A : Type 0} (P : A → Type 0) (t : A → Bool) (xs : List A) → AllByRecursion P xs → AllByRecursion P (filter t xs)
+All-filter P t [] h = tt
+All-filter P t (x ∷ xs) h =
+    elim (t x) as (λ b. AllByRecursion P (if b then x ∷ filter t xs else filter t xs)) [ true ↦ (h.0, All-filter P t xs h.1) | false ↦ All-filter P t xs h.1 ]
+
+pub All-append : {A : Type 0} (P : A → Type 0) (xs ys : List A) → AllByRecursion P xs → AllByRecursion P ys → AllByRecursion P (xs ++ ys)
+All-append P [] ys h j = j
+All-append P (x ∷ xs) ys h j = (h.0, All-append P xs ys h.1 j)
 
 pub AllFrom-map : {A : Type 0} (P Q : ℕ → A → Type 0) → ((k : ℕ) (x : A) → P k x → Q k x) → (n : ℕ) (xs : List A) → AllFrom P n xs → AllFrom Q n xs
 AllFrom-map P Q f n [] h = tt
@@ -64,10 +78,34 @@ AllFrom-others P Q n (x ∷ xs) (suc p) y f g h = (
   AllFrom-others P Q (suc n) xs p y (λ k z e ne j. let at : n + suc k ≡ suc n + k = omega arith in subst (λ (i : ℕ). Q i z) at (f (suc k) z e (λ (i : suc k ≡ suc p). ne (omega arith)) (subst (λ (i : ℕ). P i z) (sym at) j))) g h.1,
 )
 
+pub AllFrom-of : {A : Type 0} (P : A → Type 0) (Q : ℕ → A → Type 0) → ((k : ℕ) (x : A) → P x → Q k x) → (n : ℕ) (xs : List A) → AllByRecursion P xs → AllFrom Q n xs
+AllFrom-of P Q f n [] h = tt
+AllFrom-of P Q f n (x ∷ xs) h = (f n x h.0, AllFrom-of P Q f (suc n) xs h.1)
+
+pub AllFrom-zip : {A : Type 0} (P : ℕ → A → Type 0) (Q : A → Type 0) (n : ℕ) (xs : List A) → AllFrom P n xs → AllByRecursion Q xs → AllFrom (λ k x. P k x × Q x) n xs
+AllFrom-zip P Q n [] h j = tt
+AllFrom-zip P Q n (x ∷ xs) h j = ((h.0, j.0), AllFrom-zip P Q (suc n) xs h.1 j.1)
+
+pub AllFrom-each : {A : Type 0} (P : ℕ → A → Type 0) (Q : A → Type 0) → ((k : ℕ) (x : A) → P k x → Q x) → (n : ℕ) (xs : List A) → AllFrom P n xs → AllByRecursion Q xs
+AllFrom-each P Q f n [] h = tt
+AllFrom-each P Q f n (x ∷ xs) h = (f n x h.0, AllFrom-each P Q f (suc n) xs h.1)
+
 pub count-set : {A : Type 0} (t : A → Bool) (xs : List A) (p : ℕ) (y : A) → count t (slice_set xs p y) ≤ count t xs + one (t y)
 count-set t [] p y = omega arith
 count-set t (x ∷ xs) zero y = omega arith
 count-set t (x ∷ xs) (suc p) y = let ih : count t (slice_set xs p y) ≤ count t xs + one (t y) = count-set t xs p y in omega arith
+
+pub count-set_same : {A : Type 0} (t : A → Bool) (xs : List A) (p : ℕ) (d y : A) → t y ≡ t (option_or d (slice_get xs p)) → count t (slice_set xs p y) ≡ count t xs
+count-set_same t [] p d y e = refl
+count-set_same t (x ∷ xs) zero d y e = ap (λ b. one b + count t xs) e
+count-set_same t (x ∷ xs) (suc p) d y e = ap (λ n. one (t x) + n) (count-set_same t xs p d y e)
+
+pub count-put : {A : Type 0} (t : A → Bool) (cmp : A → A → Ordering) (y : A) (xs : List A) → count t (put_rising cmp y xs) ≤ count t xs + one (t y)
+count-put t cmp y [] = omega arith
+count-put t cmp y (x ∷ xs) =
+    let ih : count t (put_rising cmp y xs) ≤ count t xs + one (t y) = count-put t cmp y xs in
+    elim (cmp y x) as (λ o. count t (match_ordering o (y ∷ x ∷ xs) (y ∷ xs) (x ∷ put_rising cmp y xs)) ≤ one (t x) + count t xs + one (t y))
+    [ Less ↦ omega arith | Equal ↦ omega arith | Greater ↦ omega arith ]
 
 pub count-none : {A : Type 0} (t : A → Bool) (xs : List A) → AllByRecursion (λ x. t x ≡ false) xs → count t xs ≡ 0
 count-none t [] h = refl
@@ -85,3 +123,7 @@ same-place t (z ∷ zs) zero zero x y c e h d k = refl
 same-place t (z ∷ zs) zero (suc q) x y c e h d k = let is : z ≡ x = cc in let bit : one (t z) ≡ 1 = ap (λ w. one (t w)) is ∙ ap one h in let more : 1 ≤ count t zs = one-of t zs q y d k in absurd (omega arith)
 same-place t (z ∷ zs) (suc p) zero x y c e h d k = let is : z ≡ y = cc in let bit : one (t z) ≡ 1 = ap (λ w. one (t w)) is ∙ ap one k in let more : 1 ≤ count t zs = one-of t zs p x e h in absurd (omega arith)
 same-place t (z ∷ zs) (suc p) (suc q) x y c e h d k = ap suc (same-place t zs p q x y (omega arith) e h d k)
+
+pub IfSome-map : {A : Type 0} (P Q : A → Type 0) → ((x : A) → P x → Q x) → (o : Option A) → IfSome o P → IfSome o Q
+IfSome-map P Q f None h = tt
+IfSome-map P Q f (Some x) h = f x h
