@@ -11,11 +11,11 @@ use Rattle.ax_log.specs.Answers.{aggregate_of}
 use Rattle.ax_log.proofs.Order.{IsQuiet}
 use Rattle.ax_tokens.specs.Plain.{Plain}
 use Rattle.ax_tokens.specs.Tokens.{Token, parts}
-use Rattle.ax_state.specs.Setting.{Setting}
-use Rattle.ax_state.specs.State.{Shelf, Batch, Desk, Reservation}
+use Rattle.ax_state.specs.Setting.{Setting, name_at}
+use Rattle.ax_state.specs.State.{State, Shelf, Batch, Desk, Reservation, with_cells}
 use Rattle.ax_state.specs.Positions.{first_letter, drops_of}
 use Rattle.ax_state.specs.Portions.{Portion, portions, put_portion}
-use Rattle.ax_state.specs.WellFormed.{IsPlainOver, IsTokenOver, IsHeldCell, IsReservation, HoldsCells, IsPlace, IsFolded, CoverPrefix, IsStanding, IsBatchRow, IsBatchAt, IsBatchIn}
+use Rattle.ax_state.specs.WellFormed.{IsWellFormed, reserved_by, IsPlainOver, IsTokenOver, IsHeldCell, IsReservation, HoldsCells, IsPlace, IsFolded, CoverPrefix, IsStanding, IsBatchRow, IsBatchAt, IsBatchIn}
 use Rattle.ax_state.proofs.Lists.{All-map, AllFrom-map}
 use Rattle.ax_values.specs.declared.cell.Cell.{Cell}
 
@@ -133,7 +133,7 @@ token-grows cells later g mask t h = record {
 
 -- ---- places
 
-pub place-grows : (setting : Setting) (cells later : List Cell) → Grows cells later → (p : ℕ) (shelf : Shelf) → IsPlace setting cells p shelf → IsPlace setting later p shelf
+place-grows : (setting : Setting) (cells later : List Cell) → Grows cells later → (p : ℕ) (shelf : Shelf) → IsPlace setting cells p shelf → IsPlace setting later p shelf
 place-grows setting cells later g p shelf h = record {
   parts = h.parts;
   tokens = All-map (λ x. IsTokenOver cells x.segment.mask x.token) (λ x. IsTokenOver later x.segment.mask x.token) (λ x. token-grows cells later g x.segment.mask x.token) (portions shelf.rows) h.tokens;
@@ -167,7 +167,7 @@ batch-grows setting cells later g shelves b h = record {
   rows = AllFrom-map (IsBatchAt cells b) (IsBatchAt later b) (batch-at-grows cells later g b) 0 shelves h.rows;
 }
 
-pub batches-grow : (setting : Setting) (cells later : List Cell) → Grows cells later → (shelves : List Shelf) (d : Desk) → IfSome d.batch (IsBatchIn setting cells shelves) → IfSome d.batch (IsBatchIn setting later shelves)
+batches-grow : (setting : Setting) (cells later : List Cell) → Grows cells later → (shelves : List Shelf) (d : Desk) → IfSome d.batch (IsBatchIn setting cells shelves) → IfSome d.batch (IsBatchIn setting later shelves)
 batches-grow setting cells later g shelves d h = at d.batch h
   where
     at : (o : Option Batch) → IfSome o (IsBatchIn setting cells shelves) → IfSome o (IsBatchIn setting later shelves)
@@ -192,7 +192,7 @@ held-at a s w None y f h = absurd h
 held-at a s w (Some c) None f h = absurd f
 held-at a s w (Some c) (Some d) f h = becomes-held a s w c d f h
 
-pub holds-grows : (cells later : List Cell) → Grows cells later → (actor : Name) (d : Desk) → HoldsCells cells actor d → HoldsCells later actor d
+holds-grows : (cells later : List Cell) → Grows cells later → (actor : Name) (d : Desk) → HoldsCells cells actor d → HoldsCells later actor d
 holds-grows cells later g actor d h = at d.reservation h
   where
     at : (o : Option Reservation) → IfSome o (IsReservation cells actor) → IfSome o (IsReservation later actor)
@@ -261,3 +261,22 @@ ordered-grows cells later g size fresh h = record {
           bound = (let l : length_of a later ≡ length_of a cells = same a in let k : s ≤ length_of a cells = r.bound in omega arith);
           before = λ k. lengths a i ∙ r.before (k ∙ same a) ∙ sym (same a);
         }
+
+-- ---- the whole
+
+pub kept-grown : (m : State) (later : List Cell) → Grows m.cells later → IsOrdered later → AllByRecursion (reserved_by m.clock) later → IsWellFormed m → IsWellFormed (with_cells later m)
+kept-grown m later g ordered moments h = record {
+  sheet = h.sheet;
+  log = ordered;
+  clock = record { limit = h.clock.limit; reserved = moments; kept = h.clock.kept };
+  reserved = record {
+    each = AllFrom-map (λ k d. HoldsCells m.cells (name_at m.setting.actors k) d) (λ k d. HoldsCells later (name_at m.setting.actors k) d) (λ k d. holds-grows m.cells later g (name_at m.setting.actors k) d) 0 m.desks h.reserved.each;
+    apart = h.reserved.apart;
+  };
+  places = AllFrom-map (IsPlace m.setting m.cells) (IsPlace m.setting later) (place-grows m.setting m.cells later g) 0 m.shelves h.places;
+  declared = h.declared;
+  actors = h.actors;
+  fences = h.fences;
+  desks = h.desks;
+  batches = All-map (λ d. IfSome d.batch (IsBatchIn m.setting m.cells m.shelves)) (λ d. IfSome d.batch (IsBatchIn m.setting later m.shelves)) (batches-grow m.setting m.cells later g m.shelves) m.desks h.batches;
+}

@@ -2,7 +2,7 @@
 use Rattle.std.specs.Prelude.{◌≡◌, ℕ, zero, suc, ◌+◌, ◌-◌, ◌<◌, ◌≤◌, ◌⊎◌, ◌==◌, ◌&&◌, Bool, true, false, IfSome, List, [], ◌∷◌, map, length, take, drop, Option, Some, None, slice_get, slice_set, nat_le, nat_lt, if◌then◌else◌}
 use Rattle.std.specs.List.{AllByRecursion}
 use Rattle.std.proofs.Common.{refl, ap, sym, ◌∙◌, subst, inl, inr, ⊎_elim, arith}
-use Rattle.std.proofs.lemmas.List.{length-set, length-map}
+use Rattle.std.proofs.lemmas.List.{length-map}
 use Rattle.std.proofs.lemmas.Option.{slice_get_within}
 use Rattle.std.proofs.lemmas.Bool.Decides.{nat_tests}
 use borrow.Author.Tests.{eqb-true, ltb-true, ltb-false}
@@ -13,13 +13,14 @@ use Rattle.ax_log.specs.Puts.{CanPutAll, puts_at}
 use Rattle.ax_log.specs.Answers.{AreOf, aggregate_of, number_of, IsKeptFor, TakesKept, first_void, void_among}
 use Rattle.ax_log.proofs.Append.{can_append}
 use Rattle.ax_log.proofs.Made.{put_all-puts_at, IsOrdered-put_all}
-use Rattle.ax_state.specs.Every.{AllFrom, count, one, option_or}
+use Rattle.ax_state.specs.Every.{AllFrom, option_or}
 use Rattle.ax_state.specs.Setting.{name_at}
 use Rattle.ax_state.specs.State.{State, Desk, Reservation, desk_at, empty_desk, with_cells}
 use Rattle.ax_state.specs.Answer.{answer}
-use Rattle.ax_state.specs.WellFormed.{IsWellFormed, IsSeat, IsPlace, IsBatchIn, IsReservation, IsHeldCell, HoldsCells, holds_cell}
-use Rattle.ax_state.proofs.Lists.{All-map, All-set, All-at, AllFrom-map, AllFrom-set, AllFrom-at, AllFrom-get, AllFrom-others, count-set, same-place}
-use Rattle.ax_state.proofs.Grow.{Grows, held-within, place-grows, batches-grow, holds-grows, ordered-grows}
+use Rattle.ax_state.specs.WellFormed.{IsWellFormed, IsPlace, IsBatchIn, IsReservation, IsHeldCell, HoldsCells, holds_cell}
+use Rattle.ax_state.proofs.Lists.{All-map, AllFrom-map, AllFrom-get, AllFrom-others, same-place}
+use Rattle.ax_state.proofs.Desks.{kept-unreserved}
+use Rattle.ax_state.proofs.Grow.{Grows, held-within, ordered-grows, kept-grown}
 use Rattle.ax_state.proofs.Fill.{Own, Fills, IsFill, fills-put, place-fills, batch-fills, fills-reserved_by}
 use Rattle.ax_step_log.specs.Logging.{append, appended, appended_unless, released, with_reservation}
 use Rattle.ax_step_log.proofs.Released.{grows-released, length-released, reserved-released}
@@ -31,28 +32,7 @@ use Rattle.ax_journal.specs.declared.reply.Reply.{Reply}
 
 -- a desk lets its reservation go
 kept-released : (m : State) (actor : ℕ) (o : Option Reservation) → IsWellFormed m → IsWellFormed (with_reservation actor None (with_cells (released o m.cells) m))
-kept-released m actor o h = record {
-  sheet = h.sheet;
-  log = ordered-grows m.cells later g (let l : length later ≡ length m.cells = length-released o m.cells in let k : length m.cells ≤ max_cells = h.log.size in omega arith)
-      (λ i a s w t e past. absurd (let lt : i < length later = slice_get_within later i (Cell.Reserved a s w t) e in let l : length later ≡ length m.cells = length-released o m.cells in omega arith)) h.log;
-  clock = record { limit = h.clock.limit; reserved = reserved-released m.clock o m.cells h.clock.reserved; kept = h.clock.kept };
-  reserved = record {
-    each = AllFrom-set (λ k x. HoldsCells later (name_at m.setting.actors k) x) 0 m.desks actor desk
-        (AllFrom-map (λ k x. HoldsCells m.cells (name_at m.setting.actors k) x) (λ k x. HoldsCells later (name_at m.setting.actors k) x) (λ k x. holds-grows m.cells later g (name_at m.setting.actors k) x) 0 m.desks h.reserved.each) (λ k e. tt);
-    apart = λ i. let more : count (λ x. holds_cell i x.reservation) (slice_set m.desks actor desk) ≤ count (λ x. holds_cell i x.reservation) m.desks + one (holds_cell i desk.reservation) = count-set (λ x. holds_cell i x.reservation) m.desks actor desk in
-        let was : count (λ x. holds_cell i x.reservation) m.desks ≤ 1 = h.reserved.apart i in omega arith;
-  };
-  places = AllFrom-map (IsPlace m.setting m.cells) (IsPlace m.setting later) (place-grows m.setting m.cells later g) 0 m.shelves h.places;
-  declared = h.declared;
-  actors = length-set m.desks actor desk ∙ h.actors;
-  fences = h.fences;
-  desks = AllFrom-set (λ k x. IsSeat m.fence m.shelves (name_at m.setting.actors k) x) 0 m.desks actor desk h.desks
-      (λ k e. let seat : IsSeat m.fence m.shelves (name_at m.setting.actors k) (desk_at m actor) = AllFrom-at (λ j x. IsSeat m.fence m.shelves (name_at m.setting.actors j) x) 0 m.desks actor empty_desk h.desks (λ j. record { held = tt; batch = tt }) k e in
-      record { held = seat.held; batch = seat.batch });
-  batches = All-set (λ x. IfSome x.batch (IsBatchIn m.setting later m.shelves)) m.desks actor desk
-      (All-map (λ x. IfSome x.batch (IsBatchIn m.setting m.cells m.shelves)) (λ x. IfSome x.batch (IsBatchIn m.setting later m.shelves)) (batches-grow m.setting m.cells later g m.shelves) m.desks h.batches)
-      (batches-grow m.setting m.cells later g m.shelves (desk_at m actor) (All-at (λ x. IfSome x.batch (IsBatchIn m.setting m.cells m.shelves)) m.desks actor empty_desk h.batches tt));
-}
+kept-released m actor o h = kept-unreserved (with_cells later m) actor (kept-grown m later g ordered (reserved-released m.clock o m.cells h.clock.reserved) h)
   where
     later : List Cell
     later = released o m.cells
@@ -60,8 +40,12 @@ kept-released m actor o h = record {
     g : Grows m.cells later
     g = grows-released o m.cells
 
-    desk : Desk
-    desk = record (desk_at m actor) { reservation = None }
+    same : length later ≡ length m.cells
+    same = length-released o m.cells
+
+    ordered : IsOrdered later
+    ordered = ordered-grows m.cells later g (let l : length later ≡ length m.cells = same in let k : length m.cells ≤ max_cells = h.log.size in omega arith)
+        (λ i a s w t e past. absurd (let lt : i < length later = slice_get_within later i (Cell.Reserved a s w t) e in let l : length later ≡ length m.cells = same in omega arith)) h.log
 
 -- ---- the cells of a reservation
 
@@ -180,18 +164,14 @@ kept-taken m actor d r t h = record {
   sheet = h.sheet;
   log = ordered-taken m actor d r t h;
   clock = record { limit = h.clock.limit; reserved = fills-reserved_by (Own a) m.clock m.cells later g h.clock.reserved; kept = h.clock.kept };
-  reserved = record { each = each; apart = apart };
+  reserved = record { each = each; apart = emptied.reserved.apart };
   places = AllFrom-map (IsPlace m.setting m.cells) (IsPlace m.setting later) (place-fills m.setting a r.first r.records m.cells f) 0 m.shelves h.places;
   declared = h.declared;
-  actors = length-set m.desks actor desk ∙ h.actors;
+  actors = emptied.actors;
   fences = h.fences;
-  desks = AllFrom-set (λ k x. IsSeat m.fence m.shelves (name_at m.setting.actors k) x) 0 m.desks actor desk h.desks
-      (λ k e. let seat : IsSeat m.fence m.shelves (name_at m.setting.actors k) (desk_at m actor) = AllFrom-at (λ j x. IsSeat m.fence m.shelves (name_at m.setting.actors j) x) 0 m.desks actor empty_desk h.desks (λ j. record { held = tt; batch = tt }) k e in
-      record { held = seat.held; batch = seat.batch });
-  batches = All-set (λ x. IfSome x.batch (IsBatchIn m.setting later m.shelves)) m.desks actor desk
-      (All-map (λ x. IfSome x.batch (IsBatchIn m.setting m.cells m.shelves)) (λ x. IfSome x.batch (IsBatchIn m.setting later m.shelves))
-      (λ x b. batch-fills m.setting a r.first r.records m.cells f m.shelves h.places x.batch b) m.desks h.batches)
-      (batch-fills m.setting a r.first r.records m.cells f m.shelves h.places (desk_at m actor).batch (All-at (λ x. IfSome x.batch (IsBatchIn m.setting m.cells m.shelves)) m.desks actor empty_desk h.batches tt));
+  desks = emptied.desks;
+  batches = All-map (λ x. IfSome x.batch (IsBatchIn m.setting m.cells m.shelves)) (λ x. IfSome x.batch (IsBatchIn m.setting later m.shelves))
+      (λ x b. batch-fills m.setting a r.first r.records m.cells f m.shelves h.places x.batch b) (slice_set m.desks actor desk) emptied.batches;
 }
   where
     a : Name
@@ -208,6 +188,9 @@ kept-taken m actor d r t h = record {
 
     desk : Desk
     desk = record (desk_at m actor) { reservation = None }
+
+    emptied : IsWellFormed (with_reservation actor None m)
+    emptied = kept-unreserved m actor h
 
     inside : r.first + length r.records ≤ length m.cells
     inside = within-taken m actor d r t h
@@ -243,11 +226,6 @@ kept-taken m actor d r t h = record {
           small = j.small;
           held = λ c lt. subst (λ (o : Option Cell). IsHeldCell (aggregate_of q.records) q.first_seq w o) (sym (outside k x q c e i ne lt)) (j.held c lt);
         }
-
-    apart : (i : ℕ) → count (λ x. holds_cell i x.reservation) (slice_set m.desks actor desk) ≤ 1
-    apart i =
-        let more : count (λ x. holds_cell i x.reservation) (slice_set m.desks actor desk) ≤ count (λ x. holds_cell i x.reservation) m.desks + one (holds_cell i desk.reservation) = count-set (λ x. holds_cell i x.reservation) m.desks actor desk in
-        let was : count (λ x. holds_cell i x.reservation) m.desks ≤ 1 = h.reserved.apart i in omega arith
 
 -- ---- the step
 

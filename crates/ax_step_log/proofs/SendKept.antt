@@ -2,7 +2,7 @@
 use Rattle.std.specs.Prelude.{◌≡◌, ℕ, zero, suc, ◌+◌, ◌-◌, ◌<◌, ◌≤◌, ◌&&◌, Bool, true, false, IfSome, List, [], ◌∷◌, ◌++◌, length, Option, Some, None, slice_get, slice_set, replicate, nat_lt, nat_le, if◌then◌else◌}
 use Rattle.std.specs.List.{AllByRecursion, list_all}
 use Rattle.std.proofs.Common.{refl, ap, sym, ◌∙◌, subst, arith, length-append}
-use Rattle.std.proofs.lemmas.List.{length-set, length-replicate}
+use Rattle.std.proofs.lemmas.List.{length-replicate}
 use Rattle.std.proofs.lemmas.Bool.Decides.{nat_tests}
 use borrow.Author.Tests.{ltb-true, ltb-false}
 use Rattle.ax_values.specs.Grammar.{Name}
@@ -16,12 +16,13 @@ use Rattle.ax_sheet.specs.Sheet.{command_named}
 use Rattle.ax_sheet.specs.Decision.{decision}
 use Rattle.ax_state.specs.Every.{AllFrom, count, one}
 use Rattle.ax_state.specs.Setting.{name_at}
-use Rattle.ax_state.specs.State.{State, Desk, Reservation, desk_at, empty_desk, actor_name, with_cells}
+use Rattle.ax_state.specs.State.{State, Desk, Reservation, desk_at, actor_name, with_cells}
 use Rattle.ax_state.specs.Positions.{aggregate_state}
 use Rattle.ax_state.specs.Answer.{Answer, answer}
-use Rattle.ax_state.specs.WellFormed.{IsWellFormed, HoldsCells, IsReservation, IsSeat, IsPlace, IsBatchIn, reserved_by, holds_cell}
-use Rattle.ax_state.proofs.Lists.{All-map, All-set, All-at, AllFrom-map, AllFrom-set, AllFrom-at, count-set, count-none}
-use Rattle.ax_state.proofs.Grow.{Grows, held-within, grows-append, place-grows, batches-grow, holds-grows, ordered-grows}
+use Rattle.ax_state.specs.WellFormed.{IsWellFormed, HoldsCells, IsReservation, reserved_by, holds_cell}
+use Rattle.ax_state.proofs.Lists.{AllFrom-set, count-set, count-none}
+use Rattle.ax_state.proofs.Desks.{kept-reservation}
+use Rattle.ax_state.proofs.Grow.{Grows, held-within, grows-append, ordered-grows, kept-grown}
 use Rattle.ax_step_log.specs.Logging.{send, sent_by, sent_decided, sent_events, with_reservation, released, reserved_cells, reservation_of, as_records}
 use Rattle.ax_step_log.proofs.Decisions.{EventsFit, few_fields, decision-fits, command-fits}
 use Rattle.ax_step_log.proofs.Released.{grows-released, length-released, reserved-released}
@@ -110,18 +111,7 @@ all-beyond cells actors n (d ∷ ds) i h past = (beyond cells (name_at actors n)
 
 kept-reserved : (m : State) (actor : ℕ) (a : Name) (es : List Event) → EventsFit es → length m.cells + length es ≤ max_cells → IsWellFormed m
     → IsWellFormed (with_reservation actor (Some (reservation_of m a es)) (with_cells (reserved_cells m actor a (length es)) m))
-kept-reserved m actor a es fit room h = record {
-  sheet = h.sheet;
-  log = ordered-grows m.cells later g size fresh h.log;
-  clock = record { limit = h.clock.limit; reserved = reserved-append m.clock (length es) a seq who voids (reserved-released m.clock old m.cells h.clock.reserved); kept = h.clock.kept };
-  reserved = record { each = each; apart = apart };
-  places = AllFrom-map (IsPlace m.setting m.cells) (IsPlace m.setting later) (place-grows m.setting m.cells later g) 0 m.shelves h.places;
-  declared = h.declared;
-  actors = length-set m.desks actor desk ∙ h.actors;
-  fences = h.fences;
-  desks = seats;
-  batches = batches;
-}
+kept-reserved m actor a es fit room h = kept-reservation (with_cells later m) actor (Some r) (record { each = each; apart = apart }) grown
   where
     seq : ℕ
     seq = length_of a m.cells
@@ -184,9 +174,11 @@ kept-reserved m actor a es fit room h = record {
           held = λ k lt. rw (is, cell-at k lt) (refl, refl, refl);
         }
 
+    grown : IsWellFormed (with_cells later m)
+    grown = kept-grown m later g (ordered-grows m.cells later g size fresh h.log) (reserved-append m.clock (length es) a seq who voids (reserved-released m.clock old m.cells h.clock.reserved)) h
+
     each : AllFrom (λ k d. HoldsCells later (name_at m.setting.actors k) d) 0 (slice_set m.desks actor desk)
-    each = AllFrom-set (λ k d. HoldsCells later (name_at m.setting.actors k) d) 0 m.desks actor desk
-        (AllFrom-map (λ k d. HoldsCells m.cells (name_at m.setting.actors k) d) (λ k d. HoldsCells later (name_at m.setting.actors k) d) (λ k d. holds-grows m.cells later g (name_at m.setting.actors k) d) 0 m.desks h.reserved.each)
+    each = AllFrom-set (λ k d. HoldsCells later (name_at m.setting.actors k) d) 0 m.desks actor desk grown.reserved.each
         (λ k e. let same : actor ≡ k = omega arith in subst (λ (i : ℕ). HoldsCells later (name_at m.setting.actors i) desk) same mine)
 
     apart : (i : ℕ) → count (λ d. holds_cell i d.reservation) (slice_set m.desks actor desk) ≤ 1
@@ -205,16 +197,6 @@ kept-reserved m actor a es fit room h = record {
             let past : length m.cells ≤ i = ltb-false i (length m.cells) e in
             let none : count (λ d. holds_cell i d.reservation) m.desks ≡ 0 = count-none (λ d. holds_cell i d.reservation) m.desks (all-beyond m.cells m.setting.actors 0 m.desks i h.reserved.each past) in
             let bit : one (holds_cell i (Some r)) ≤ 1 = one-le (holds_cell i (Some r)) in omega (arith, more)
-
-    seats : AllFrom (λ k d. IsSeat m.fence m.shelves (name_at m.setting.actors k) d) 0 (slice_set m.desks actor desk)
-    seats = AllFrom-set (λ k d. IsSeat m.fence m.shelves (name_at m.setting.actors k) d) 0 m.desks actor desk h.desks
-        (λ k e. let seat : IsSeat m.fence m.shelves (name_at m.setting.actors k) (desk_at m actor) = AllFrom-at (λ k d. IsSeat m.fence m.shelves (name_at m.setting.actors k) d) 0 m.desks actor empty_desk h.desks (λ j. record { held = tt; batch = tt }) k e in
-        record { held = seat.held; batch = seat.batch })
-
-    batches : AllByRecursion (λ d. IfSome d.batch (IsBatchIn m.setting later m.shelves)) (slice_set m.desks actor desk)
-    batches = All-set (λ d. IfSome d.batch (IsBatchIn m.setting later m.shelves)) m.desks actor desk
-        (All-map (λ d. IfSome d.batch (IsBatchIn m.setting m.cells m.shelves)) (λ d. IfSome d.batch (IsBatchIn m.setting later m.shelves)) (batches-grow m.setting m.cells later g m.shelves) m.desks h.batches)
-        (batches-grow m.setting m.cells later g m.shelves (desk_at m actor) (All-at (λ d. IfSome d.batch (IsBatchIn m.setting m.cells m.shelves)) m.desks actor empty_desk h.batches tt))
 
 kept-events : (m : State) (actor : ℕ) (a : Name) (es : List Event) → EventsFit es → IsWellFormed m → IsWellFormed (sent_events m actor a es).state
 kept-events m actor a es fit h = at (nat_lt max_cells (length m.cells + length es)) refl
