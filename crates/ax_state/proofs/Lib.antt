@@ -1,1 +1,5 @@
-
+pub mod Lists
+pub mod Desks
+pub mod Grow
+pub mod Fill
+pub mod Puts
