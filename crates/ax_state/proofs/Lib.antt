@@ -3,3 +3,4 @@ pub mod Desks
 pub mod Grow
 pub mod Fill
 pub mod Puts
+pub mod Starting

@@ -1,3 +1,4 @@
 pub mod Kept
 pub mod Rooms
 pub mod Segments
+pub mod Starts
