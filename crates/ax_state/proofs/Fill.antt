@@ -20,6 +20,10 @@ use Rattle.ax_state.proofs.Lists.{All-map, All-put}
 use Rattle.ax_values.specs.declared.cell.Cell.{Cell}
 use Rattle.ax_values.specs.declared.record.Record.{Record}
 
+-- an event of the aggregate
+abbrev pub Own : Name → Record → Type 0
+Own a e = e.aggregate ≡ a
+
 -- a reserved cell stays, or becomes an event that has N
 abbrev pub Filled : (Record → Type 0) → Cell → Cell → Type 0
 Filled N (Cell.Reserved a s w t) d = (d ≡ Cell.Reserved a s w t) ⊎ ((e : Record) × (d ≡ Cell.Event e) × N e)
@@ -94,14 +98,10 @@ fills-covered N cells later ps f all = fills-filter N (λ e. covered_by ps (hash
     (λ i is e n. let at : 0 + i ≡ i = omega arith in subst (λ (j : ℕ). covered_by ps (hash_of e.aggregate) j ≡ false) (sym at) (found-covers cells ps (hash_of e.aggregate) i all is))
 
 -- the streams of the other aggregates stay
-fills-others : (a b : Name) (cells later : List Cell) → ((e : Record) → e.aggregate ≡ a → same_name e.aggregate b ≡ false) → Fills (λ e. e.aggregate ≡ a) cells later → stream_in b (events later) ≡ stream_in b (events cells)
-fills-others a b cells later apart f = fills-filter (λ e. e.aggregate ≡ a) (is_of b) 0 cells later f (λ i is e n. apart e n)
+fills-others : (a b : Name) (cells later : List Cell) → ((e : Record) → Own a e → same_name e.aggregate b ≡ false) → Fills (Own a) cells later → stream_in b (events later) ≡ stream_in b (events cells)
+fills-others a b cells later apart f = fills-filter (Own a) (is_of b) 0 cells later f (λ i is e n. apart e n)
 
 -- ---- records over reserved cells
-
--- an event of the aggregate
-abbrev pub Own : Name → Record → Type 0
-Own a e = e.aggregate ≡ a
 
 -- n cells from an index on are reserved
 abbrev pub Ready : List Cell → ℕ → ℕ → Type 0
