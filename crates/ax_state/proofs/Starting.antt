@@ -1,20 +1,19 @@
 -- The starting state is well formed.
-use Rattle.std.proofs.Common.{◌≡◌, ℕ, zero, suc, ◌+◌, ◌-◌, ◌<◌, ◌≤◌, ◌==◌, ◌&&◌, ◌||◌, Bool, true, false, IsTrue, IfSome, List, [], ◌∷◌, map, length, filter, if◌then◌else◌, refl, sym, ap, ◌∙◌, subst, arith, nat_lt, nat_le}
+use Rattle.std.proofs.Common.{◌≡◌, ℕ, zero, suc, ◌+◌, ◌-◌, ◌<◌, ◌≤◌, ◌==◌, ◌&&◌, ◌||◌, Bool, true, false, IsTrue, IfSome, List, [], ◌∷◌, map, length, filter, if◌then◌else◌, refl, ap, ◌∙◌, arith, nat_lt}
 use Rattle.std.specs.List.{AllByRecursion, list_all}
 use Rattle.std.proofs.lemmas.Bool.Decides.{nat_tests}
 use Rattle.ax_values.specs.Grammar.{Name}
 use Rattle.ax_values.specs.Words.{rises}
 use Rattle.ax_values.proofs.Options.{both}
-use Rattle.ax_segments.specs.Segments.{Segment, matches, max_mask}
-use Rattle.ax_tokens.specs.Tokens.{start as first_token}
+use Rattle.ax_segments.specs.Segments.{matches, max_mask}
 use Rattle.ax_tokens.specs.Plain.{nothing}
 use Rattle.ax_sheet.specs.Declarations.{is_segment_count}
 use Rattle.ax_claims.specs.Rows.{TokenRow, AreRows, row_below, first_rows, starting}
 use Rattle.ax_claims.proofs.Starts.{are-starting}
 use Rattle.ax_state.specs.Every.{AllFrom, count, one}
-use Rattle.ax_state.specs.Setting.{Setting, IsSetting, name_at, is_saga}
-use Rattle.ax_state.specs.State.{State, Shelf, Desk, empty_desk, first_shelves, row_count, start}
-use Rattle.ax_state.specs.Portions.{Portion, portions, portion_of}
+use Rattle.ax_state.specs.Setting.{Setting, IsSetting, name_at}
+use Rattle.ax_state.specs.State.{Desk, empty_desk, first_shelves, row_count, start}
+use Rattle.ax_state.specs.Portions.{portions, portion_of}
 use Rattle.ax_state.specs.WellFormed.{IsWellFormed, AreCommands, AreParts, AreTokens, IsPlainOver, IsTokenOver, IsPlace, IsShelfBy, IsFencedShelf, IsSeat, IsBatchIn, HoldsCells, IsOwnedRight, holds_cell, fence_count, is_gapless}
 use Rattle.ax_sheet.specs.declared.parts.Processor.{Processor}
 
@@ -31,7 +30,7 @@ once-portions : (h : ℕ) (rows : List TokenRow) → length (filter (λ x. match
 once-portions h [] = refl
 once-portions h (r ∷ rows) =
     elim (matches r.segment h) as (λ b. length (if b then portion_of r ∷ filter (λ x. matches x.segment h) (portions rows) else filter (λ x. matches x.segment h) (portions rows))
-        ≡ length (if b then r ∷ filter (λ r. matches r.segment h) rows else filter (λ r. matches r.segment h) rows))
+    ≡ length (if b then r ∷ filter (λ r. matches r.segment h) rows else filter (λ r. matches r.segment h) rows))
     [ true ↦ ap suc (once-portions h rows) | false ↦ once-portions h rows ]
 
 pub parts-of : (rows : List TokenRow) → AreRows rows → AreParts (portions rows)
@@ -64,16 +63,17 @@ pub record IsFirst (mask fence past : ℕ) (r : TokenRow) : Type 0 where
 
 are-first : (n id mask fence least past : ℕ) → mask ≤ max_mask → least ≤ fence → fence + n ≤ past → AllByRecursion (IsFirst mask least past) (first_rows n id mask fence)
 are-first zero id mask fence least past m l p = tt
-are-first (suc n) id mask fence least past m l p =
-    (record {
-      token = record { each = (plain-over, tt); masks = grind (arith, nat_tests, m); gaps = refl; stays = refl };
-      gapless = refl;
-      since = omega arith;
-      owner = λ e. refl;
-      least = l;
-      most = omega arith;
-    },
-    are-first n (suc id) mask (suc fence) least past m (omega arith) (omega arith))
+are-first (suc n) id mask fence least past m l p = (
+  record {
+    token = record { each = (plain-over, tt); masks = grind (arith, nat_tests, m); gaps = refl; stays = refl };
+    gapless = refl;
+    since = omega arith;
+    owner = λ e. refl;
+    least = l;
+    most = omega arith;
+  },
+  are-first n (suc id) mask (suc fence) least past m (omega arith) (omega arith),
+)
 
 rows-first : (n fence past : ℕ) → n ≤ 16 → fence + n ≤ past → AllByRecursion (IsFirst (n - 1) fence past) (starting n fence)
 rows-first n fence past small p = are-first n 0 (n - 1) fence fence past (omega arith) (omega arith) p
@@ -117,17 +117,19 @@ shelves-by : (qs : List Processor) (fence : ℕ) → Counted qs → AllByRecursi
 shelves-by [] fence h = tt
 shelves-by (q ∷ qs) fence h =
     let k = both (is_segment_count q.segments) (list_all (λ q. is_segment_count q.segments) qs) h in
-    let small = small-count q.segments k.0 in
-    (each (IsFirst (q.segments - 1) fence (fence + q.segments)) (λ r. r.since ≤ 0) (λ r f. f.since) (starting q.segments fence) (rows-first q.segments fence (fence + q.segments) small.1 (omega arith)),
-    shelves-by qs (fence + q.segments) k.1)
+    let small = small-count q.segments k.0 in (
+      each (IsFirst (q.segments - 1) fence (fence + q.segments)) (λ r. r.since ≤ 0) (λ r f. f.since) (starting q.segments fence) (rows-first q.segments fence (fence + q.segments) small.1 (omega arith)),
+      shelves-by qs (fence + q.segments) k.1,
+    )
 
 shelves-fenced : (qs : List Processor) (fence most : ℕ) → Counted qs → 0 < fence → fence + row_count qs ≤ suc most → AllByRecursion (IsFencedShelf most) (first_shelves qs fence)
 shelves-fenced [] fence most h pos le = tt
 shelves-fenced (q ∷ qs) fence most h pos le =
     let k = both (is_segment_count q.segments) (list_all (λ q. is_segment_count q.segments) qs) h in
-    let small = small-count q.segments k.0 in
-    (each (IsFirst (q.segments - 1) fence (fence + q.segments)) (λ r. (0 < r.fence) × (r.fence ≤ most)) (λ r f. (let a : fence ≤ r.fence = f.least in omega arith, let b : r.fence < fence + q.segments = f.most in omega arith)) (starting q.segments fence) (rows-first q.segments fence (fence + q.segments) small.1 (omega arith)),
-    shelves-fenced qs (fence + q.segments) most k.1 (omega arith) (omega arith))
+    let small = small-count q.segments k.0 in (
+      each (IsFirst (q.segments - 1) fence (fence + q.segments)) (λ r. (0 < r.fence) × (r.fence ≤ most)) (λ r f. (let a : fence ≤ r.fence = f.least in omega arith, let b : r.fence < fence + q.segments = f.most in omega arith)) (starting q.segments fence) (rows-first q.segments fence (fence + q.segments) small.1 (omega arith)),
+      shelves-fenced qs (fence + q.segments) most k.1 (omega arith) (omega arith),
+    )
 
 shelves-count : (qs : List Processor) (fence : ℕ) → length (first_shelves qs fence) ≡ length qs
 shelves-count [] fence = refl

@@ -1,5 +1,5 @@
 -- What holds of every state that can be reached. Each part takes the values that it reads: events, portions, and not cells and rows.
-use Rattle.std.specs.Prelude.{◌≡◌, ℕ, ◌+◌, ◌^◌, ◌<◌, ◌≤◌, ◌==◌, Bool, true, false, not, ◌&&◌, ◌||◌, List, [], ◌∷◌, map, length, filter, flat_map, Option, Some, None, IsOk, IsTrue, IfSome, nat_lt, nat_le, slice_get}
+use Rattle.std.specs.Prelude.{◌≡◌, ℕ, ◌+◌, ◌^◌, ◌<◌, ◌≤◌, ◌==◌, Bool, true, false, not, ◌&&◌, ◌||◌, List, [], ◌∷◌, map, length, filter, Option, Some, None, IsOk, IsTrue, IfSome, nat_lt, nat_le, slice_get}
 use Rattle.std.specs.List.{AllByRecursion, list_all}
 use Rattle.ax_values.specs.Grammar.{Name, ItemName}
 use Rattle.ax_values.specs.Words.{rises}
@@ -10,7 +10,6 @@ use Rattle.ax_segments.specs.Segments.{Segment, hash_of, matches}
 use Rattle.ax_tokens.specs.Plain.{Plain, has, contains, plain_of, is_canonical_plain}
 use Rattle.ax_tokens.specs.Tokens.{Token, plain, merged, replay, collapsed, parts, gaps_fit, masks_fit}
 use Rattle.ax_sheet.specs.Sheet.{Sheet, command_fits}
-use Rattle.ax_projections.specs.Items.{Placed, placed_items}
 use Rattle.ax_claims.specs.Rows.{TokenRow}
 use Rattle.ax_state.specs.Every.{AllFrom, count}
 use Rattle.ax_state.specs.Setting.{Setting, name_at, is_projection, is_saga, projection_at}
@@ -18,7 +17,6 @@ use Rattle.ax_state.specs.State.{State, Shelf, Desk, Batch, Reservation}
 use Rattle.ax_state.specs.Positions.{first_letter, drops_of}
 use Rattle.ax_state.specs.Portions.{Portion, portions, put_portion, covered_by, covered_events, row_by}
 use Rattle.ax_values.specs.declared.cell.Cell.{Cell}
-use Rattle.ax_upcast.specs.declared.upcaster.Upcaster.{Upcaster}
 
 -- ---- the sheet
 

@@ -1,5 +1,5 @@
 -- Steps on token rows: claim.
-use Rattle.std.specs.Prelude.{ℕ, suc, ◌==◌, Bool, not, ◌&&◌, List, [], ◌∷◌, ◌++◌, filter, find, Option, Some, None, if◌then◌else◌}
+use Rattle.std.specs.Prelude.{ℕ, suc, ◌==◌, Bool, not, ◌&&◌, List, [], ◌∷◌, ◌++◌, filter, Option, Some, None, if◌then◌else◌}
 use Rattle.ax_values.specs.Grammar.{Name}
 use Rattle.ax_segments.specs.Segments.{Segment, same_segment}
 use Rattle.ax_claims.specs.Rows.{TokenRow, row_at, put_row}

@@ -1,9 +1,9 @@
 -- What is kept of processors, where one of them changes.
-use Rattle.std.proofs.Common.{◌≡◌, ℕ, zero, suc, ◌+◌, ◌<◌, ◌≤◌, ◌==◌, Bool, true, false, List, [], ◌∷◌, map, length, Option, Some, None, slice_get, slice_set, get_or, refl, sym, ap, ◌∙◌, subst, arith}
+use Rattle.std.proofs.Common.{◌≡◌, ℕ, zero, suc, ◌+◌, ◌<◌, ◌≤◌, ◌==◌, Bool, true, false, List, [], ◌∷◌, map, length, slice_get, slice_set, get_or, refl, sym, ap, ◌∙◌, subst, arith}
 use Rattle.std.proofs.lemmas.Bool.Decides.{nat_tests}
 use Rattle.std.proofs.lemmas.List.{length-map}
 use Rattle.ax_state.specs.Every.{option_or, one}
-use Rattle.ax_world.specs.Whole.{Place, PlaceView, place_in, room_in}
+use Rattle.ax_world.specs.Whole.{PlaceView, room_in}
 
 pub map_set : {A B : Type 0} (f : A → B) (xs : List A) (p : ℕ) (y : A) → map f (slice_set xs p y) ≡ slice_set (map f xs) p (f y)
 map_set f [] p y = refl

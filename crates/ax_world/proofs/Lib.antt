@@ -2,3 +2,4 @@ pub mod Kept
 pub mod Rooms
 pub mod Segments
 pub mod Starts
+pub mod Moves

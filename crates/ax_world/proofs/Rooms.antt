@@ -1,10 +1,10 @@
 -- Room that is made for edits stays until they are made.
-use Rattle.std.proofs.Common.{◌≡◌, ℕ, zero, suc, ◌+◌, ◌<◌, ◌≤◌, ◌==◌, Bool, true, false, List, [], ◌∷◌, map, take, length, Option, Some, None, Result, Ok, Err, OnOk, slice_set, get_or, nat_lt, refl, sym, ap, ◌∙◌, subst, arith}
+use Rattle.std.proofs.Common.{◌≡◌, ℕ, zero, suc, ◌+◌, ◌<◌, ◌≤◌, Bool, true, false, List, [], ◌∷◌, map, take, length, Result, Ok, Err, OnOk, get_or, nat_lt, refl, sym, ap, ◌∙◌, subst, arith}
 use Rattle.std.specs.List.{AllByRecursion}
 use Rattle.std.proofs.lemmas.Bool.Decides.{nat_tests}
 use Rattle.std.proofs.lemmas.List.{length-set, length-map}
 use Rattle.ax_state.specs.Every.{count, one}
-use Rattle.ax_world.specs.Whole.{Whole, Place, PlaceView, Room, room_in, rows_room, place_at}
+use Rattle.ax_world.specs.Whole.{Whole, PlaceView, Room, room_in, rows_room, place_at}
 use Rattle.ax_world.specs.Made.{made, with_shelf}
 use Rattle.ax_world.specs.Fits.{CanMake, CanMakeAll, HasRoom, Leaves, is_cells, cells_put, puts_row}
 use Rattle.ax_projections.specs.Table.{put_entry}

@@ -1,5 +1,5 @@
 -- The starting world.
-use Rattle.std.proofs.Common.{◌≡◌, ℕ, suc, List, [], ◌∷◌, map, refl, sym, ap, ◌∙◌, subst}
+use Rattle.std.proofs.Common.{◌≡◌, ℕ, suc, List, [], ◌∷◌, map, refl, sym, ap, subst}
 use Rattle.ax_state.specs.Every.{AllFrom}
 use Rattle.ax_state.specs.Setting.{Setting, IsSetting}
 use Rattle.ax_state.specs.State.{Shelf, Desk, empty_desk, first_shelves, row_count, start}

@@ -1,9 +1,12 @@
+ghost use Rattle.std.specs.Prelude.{◌≡◌, []};
+
 use crate::Desk;
 use ax_claims::Rows;
 use ax_journal::{Lines, Reply};
 use ax_log::CellPuts;
 use ax_projections::Positioned;
 use ax_values::{ListOf, Name};
+use std::alloc::Global;
 
 /// One change of the world.
 #[derive(Drop)]
@@ -39,4 +42,28 @@ pub struct Move {
     pub edits: Edits,
     pub reply: Reply,
     pub report: Lines,
+}
+
+impl Move {
+    /// Changes nothing.
+    pub fn without_edits(alloc: Global, reply: Reply) -> Move
+        ensures { result ≡ record { edits = []; reply = reply; report = [] } }
+    {
+        Move {
+            edits: Edits::new(alloc),
+            reply,
+            report: Lines::new(alloc),
+        }
+    }
+
+    /// Makes these changes, without a report.
+    pub fn of(alloc: Global, edits: Edits, reply: Reply) -> Move
+        ensures { result ≡ record { edits = edits; reply = reply; report = [] } }
+    {
+        Move {
+            edits,
+            reply,
+            report: Lines::new(alloc),
+        }
+    }
 }

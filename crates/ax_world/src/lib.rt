@@ -3,9 +3,9 @@
 
 mod desk;
 mod edit;
+mod parts;
 mod place;
 mod start;
-mod parts;
 mod world;
 
 pub use desk::{Batch, Desk, Held, HeldList, Reservation};

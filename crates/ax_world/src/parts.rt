@@ -38,15 +38,15 @@ impl Model for Parts {
     ghost coded = { Prim.hlevel (codes, coded_expr, coded_token) };
 
     ghost view = { λ w. record {
-        whole = record {
-            setting = record { sheet = w.sheet; processors = w.processors; actors = w.actors };
-            clock = w.clock;
-            fence = w.fence;
-            cells = w.log.cells;
-            places = map (λ x. x.place) w.places.items;
-            desks = w.desks.items;
-        };
-        room = record { cells = w.log.room; rows = map (λ x. x.room) w.places.items };
+      whole = record {
+        setting = record { sheet = w.sheet; processors = w.processors; actors = w.actors };
+        clock = w.clock;
+        fence = w.fence;
+        cells = w.log.cells;
+        places = map (λ x. x.place) w.places.items;
+        desks = w.desks.items;
+      };
+      room = record { cells = w.log.room; rows = map (λ x. x.room) w.places.items };
     } };
 }
 

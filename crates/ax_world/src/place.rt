@@ -84,7 +84,11 @@ fn rows_put(edits: &[Edit], processor: u32) -> usize
 {
     let mut rows = 0;
     for edit in edits {
-        if let Edit::PutRow { processor: place, .. } = edit {
+        if let Edit::PutRow {
+            processor: place,
+            ..
+        } = edit
+        {
             if *place == processor {
                 rows += 1;
             }

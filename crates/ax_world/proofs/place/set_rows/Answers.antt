@@ -1,4 +1,3 @@
-use Rattle.std.proofs.Common.{◌≡◌}
 use Rattle.ax_world.specs.Whole.{Place, empty_place}
 use Rattle.ax_world.specs.Made.{with_shelf}
 use Rattle.ax_world.proofs.Kept.{placed, unseen}

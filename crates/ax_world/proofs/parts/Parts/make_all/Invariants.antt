@@ -1,5 +1,5 @@
 -- what is left can be made, has room, and leads to the same
-use Rattle.std.proofs.Common.{◌≡◌, ◌≤◌, ℕ}
+use Rattle.std.proofs.Common.{◌≡◌, ◌≤◌}
 use Rattle.std.specs.Vec.Iter.{into_iter_items}
 use Rattle.ax_state.specs.Every.{count}
 use Rattle.ax_world.specs.Made.{made_all}

@@ -1,4 +1,4 @@
-use Rattle.std.proofs.Common.{◌≡◌, sym, ap}
+use Rattle.std.proofs.Common.{sym, ap}
 use Rattle.ax_world.proofs.Rooms.{room-made}
 use Rattle.ax_world.proofs.parts.Parts.prepare.Goals as goal
 

@@ -1,4 +1,4 @@
-use Rattle.std.proofs.Common.{◌≡◌, ◌∙◌, ap, map}
+use Rattle.std.proofs.Common.{◌∙◌, ap, map}
 use Rattle.ax_state.specs.State.{empty_desk, first_shelves, row_count}
 use Rattle.ax_world.specs.Whole.{bare}
 use Rattle.ax_world.proofs.Starts.{started}
