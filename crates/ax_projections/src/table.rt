@@ -66,12 +66,12 @@ impl Table {
     }
 
     /// Makes room for `count` aggregates more. The rows stay.
-    pub fn reserve(&mut self, count: u32) -> Result<(), NoMemory>
+    pub fn reserve(&mut self, count: usize) -> Result<(), NoMemory>
         ensures entries { self.new.entries ≡ self.old.entries }
         ensures room { OnOk result (count ≤ self.new.room) }
         ensures more { self.old.room ≤ self.new.room }
     {
-        self.rows.reserve(count as usize)?;
+        self.rows.reserve(count)?;
         Ok(())
     }
 

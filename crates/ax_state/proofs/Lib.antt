@@ -1,0 +1,6 @@
+pub mod Lists
+pub mod Desks
+pub mod Grow
+pub mod Fill
+pub mod Puts
+pub mod Starting

@@ -1,0 +1,219 @@
+-- The starting state is well formed.
+use Rattle.std.proofs.Common.{◌≡◌, ℕ, zero, suc, ◌+◌, ◌-◌, ◌<◌, ◌≤◌, ◌==◌, ◌&&◌, ◌||◌, Bool, true, false, IsTrue, IfSome, List, [], ◌∷◌, map, length, filter, if◌then◌else◌, refl, ap, ◌∙◌, arith, nat_lt}
+use Rattle.std.specs.List.{AllByRecursion, list_all}
+use Rattle.std.proofs.lemmas.Bool.Decides.{nat_tests}
+use Rattle.ax_values.specs.Grammar.{Name}
+use Rattle.ax_values.specs.Words.{rises}
+use Rattle.ax_values.proofs.Options.{both}
+use Rattle.ax_segments.specs.Segments.{matches, max_mask}
+use Rattle.ax_tokens.specs.Plain.{nothing}
+use Rattle.ax_sheet.specs.Declarations.{is_segment_count}
+use Rattle.ax_claims.specs.Rows.{TokenRow, AreRows, row_below, first_rows, starting}
+use Rattle.ax_claims.proofs.Starts.{are-starting}
+use Rattle.ax_state.specs.Every.{AllFrom, count, one}
+use Rattle.ax_state.specs.Setting.{Setting, IsSetting, name_at}
+use Rattle.ax_state.specs.State.{Desk, empty_desk, first_shelves, row_count, start}
+use Rattle.ax_state.specs.Portions.{portions, portion_of}
+use Rattle.ax_state.specs.WellFormed.{IsWellFormed, AreCommands, AreParts, AreTokens, IsPlainOver, IsTokenOver, IsPlace, IsShelfBy, IsFencedShelf, IsSeat, IsBatchIn, HoldsCells, IsOwnedRight, holds_cell, fence_count, is_gapless}
+use Rattle.ax_sheet.specs.declared.parts.Processor.{Processor}
+
+-- ---- portions of rows
+
+below-portions : (rows : List TokenRow) → rises row_below rows ≡ true → rises (λ x y. nat_lt x.segment.id y.segment.id) (portions rows) ≡ true
+below-portions [] h = refl
+below-portions (r ∷ []) h = refl
+below-portions (r ∷ s ∷ rows) h =
+    let p = both (row_below r s) (rises row_below (s ∷ rows)) h in
+    ap (λ b. b && rises (λ x y. nat_lt x.segment.id y.segment.id) (portions (s ∷ rows))) p.0 ∙ below-portions (s ∷ rows) p.1
+
+once-portions : (h : ℕ) (rows : List TokenRow) → length (filter (λ x. matches x.segment h) (portions rows)) ≡ length (filter (λ r. matches r.segment h) rows)
+once-portions h [] = refl
+once-portions h (r ∷ rows) =
+    elim (matches r.segment h) as (λ b. length (if b then portion_of r ∷ filter (λ x. matches x.segment h) (portions rows) else filter (λ x. matches x.segment h) (portions rows))
+    ≡ length (if b then r ∷ filter (λ r. matches r.segment h) rows else filter (λ r. matches r.segment h) rows))
+    [ true ↦ ap suc (once-portions h rows) | false ↦ once-portions h rows ]
+
+pub parts-of : (rows : List TokenRow) → AreRows rows → AreParts (portions rows)
+parts-of rows h = record { order = below-portions rows h.order; once = λ k small. once-portions k rows ∙ h.once k small }
+
+-- ---- the first rows of a processor
+
+small-count : (n : ℕ) → IsTrue (is_segment_count n) → (0 < n) × (n ≤ 16)
+small-count n h = at (1 == n) refl (2 == n) refl (4 == n) refl (8 == n) refl (16 == n) refl h
+  where
+    at : (a : Bool) → (1 == n) ≡ a → (b : Bool) → (2 == n) ≡ b → (c : Bool) → (4 == n) ≡ c → (d : Bool) → (8 == n) ≡ d → (e : Bool) → (16 == n) ≡ e → (a || (b || (c || (d || (e || false))))) ≡ true → (0 < n) × (n ≤ 16)
+    at true p b q c r d s e t h = let same : 1 ≡ n = grind (arith, nat_tests, p) in (omega arith, omega arith)
+    at false p true q c r d s e t h = let same : 2 ≡ n = grind (arith, nat_tests, q) in (omega arith, omega arith)
+    at false p false q true r d s e t h = let same : 4 ≡ n = grind (arith, nat_tests, r) in (omega arith, omega arith)
+    at false p false q false r true s e t h = let same : 8 ≡ n = grind (arith, nat_tests, s) in (omega arith, omega arith)
+    at false p false q false r false s true t h = let same : 16 ≡ n = grind (arith, nat_tests, t) in (omega arith, omega arith)
+    at false p false q false r false s false t h = absurd (cc)
+
+plain-over : IsPlainOver [] nothing
+plain-over = record { canonical = refl; within = omega arith; settled = λ i e. grind (arith, nat_tests, e) }
+
+-- what holds of each of the first rows
+pub record IsFirst (mask fence past : ℕ) (r : TokenRow) : Type 0 where
+  pub token : IsTokenOver [] r.segment.mask r.token
+  pub gapless : IsTrue (is_gapless r.token)
+  pub since : r.since ≤ 0
+  pub owner : IsOwnedRight r
+  pub least : fence ≤ r.fence
+  pub most : r.fence < past
+
+are-first : (n id mask fence least past : ℕ) → mask ≤ max_mask → least ≤ fence → fence + n ≤ past → AllByRecursion (IsFirst mask least past) (first_rows n id mask fence)
+are-first zero id mask fence least past m l p = tt
+are-first (suc n) id mask fence least past m l p = (
+  record {
+    token = record { each = (plain-over, tt); masks = grind (arith, nat_tests, m); gaps = refl; stays = refl };
+    gapless = refl;
+    since = omega arith;
+    owner = λ e. refl;
+    least = l;
+    most = omega arith;
+  },
+  are-first n (suc id) mask (suc fence) least past m (omega arith) (omega arith),
+)
+
+rows-first : (n fence past : ℕ) → n ≤ 16 → fence + n ≤ past → AllByRecursion (IsFirst (n - 1) fence past) (starting n fence)
+rows-first n fence past small p = are-first n 0 (n - 1) fence fence past (omega arith) (omega arith) p
+
+each : {A : Type 0} (P Q : A → Type 0) → ((x : A) → P x → Q x) → (xs : List A) → AllByRecursion P xs → AllByRecursion Q xs
+each P Q f [] h = tt
+each P Q f (x ∷ xs) h = (f x h.0, each P Q f xs h.1)
+
+tokens-first : (mask fence past : ℕ) (rows : List TokenRow) → AllByRecursion (IsFirst mask fence past) rows → AreTokens [] (portions rows)
+tokens-first mask fence past [] h = tt
+tokens-first mask fence past (r ∷ rows) h = (h.0.token, tokens-first mask fence past rows h.1)
+
+gapless-first : (mask fence past : ℕ) (rows : List TokenRow) → AllByRecursion (IsFirst mask fence past) rows → AllByRecursion (λ x. IsTrue (is_gapless x.token)) (portions rows)
+gapless-first mask fence past [] h = tt
+gapless-first mask fence past (r ∷ rows) h = (h.0.gapless, gapless-first mask fence past rows h.1)
+
+place-first : (setting : Setting) (p n fence : ℕ) → IsTrue (is_segment_count n) → IsPlace setting [] p (record { rows = starting n fence })
+place-first setting p n fence h =
+    let small : (0 < n) × (n ≤ 16) = small-count n h in
+    let rows : AllByRecursion (IsFirst (n - 1) fence (fence + n)) (starting n fence) = rows-first n fence (fence + n) small.1 (omega arith) in
+    record {
+      parts = parts-of (starting n fence) (are-starting n fence small.0);
+      tokens = tokens-first (n - 1) fence (fence + n) (starting n fence) rows;
+      folded = record { prefixes = λ a. refl; rows = λ e a. refl };
+      gapless = λ e. gapless-first (n - 1) fence (fence + n) (starting n fence) rows;
+      owners = each (IsFirst (n - 1) fence (fence + n)) IsOwnedRight (λ r f. f.owner) (starting n fence) rows;
+    }
+
+-- ---- the shelves
+
+abbrev Counted : List Processor → Type 0
+Counted qs = IsTrue (list_all (λ q. is_segment_count q.segments) qs)
+
+places-first : (setting : Setting) (qs : List Processor) (p fence : ℕ) → Counted qs → AllFrom (IsPlace setting []) p (first_shelves qs fence)
+places-first setting [] p fence h = tt
+places-first setting (q ∷ qs) p fence h =
+    let k = both (is_segment_count q.segments) (list_all (λ q. is_segment_count q.segments) qs) h in
+    (place-first setting p q.segments fence k.0, places-first setting qs (suc p) (fence + q.segments) k.1)
+
+shelves-by : (qs : List Processor) (fence : ℕ) → Counted qs → AllByRecursion (IsShelfBy 0) (first_shelves qs fence)
+shelves-by [] fence h = tt
+shelves-by (q ∷ qs) fence h =
+    let k = both (is_segment_count q.segments) (list_all (λ q. is_segment_count q.segments) qs) h in
+    let small = small-count q.segments k.0 in (
+      each (IsFirst (q.segments - 1) fence (fence + q.segments)) (λ r. r.since ≤ 0) (λ r f. f.since) (starting q.segments fence) (rows-first q.segments fence (fence + q.segments) small.1 (omega arith)),
+      shelves-by qs (fence + q.segments) k.1,
+    )
+
+shelves-fenced : (qs : List Processor) (fence most : ℕ) → Counted qs → 0 < fence → fence + row_count qs ≤ suc most → AllByRecursion (IsFencedShelf most) (first_shelves qs fence)
+shelves-fenced [] fence most h pos le = tt
+shelves-fenced (q ∷ qs) fence most h pos le =
+    let k = both (is_segment_count q.segments) (list_all (λ q. is_segment_count q.segments) qs) h in
+    let small = small-count q.segments k.0 in (
+      each (IsFirst (q.segments - 1) fence (fence + q.segments)) (λ r. (0 < r.fence) × (r.fence ≤ most)) (λ r f. (let a : fence ≤ r.fence = f.least in omega arith, let b : r.fence < fence + q.segments = f.most in omega arith)) (starting q.segments fence) (rows-first q.segments fence (fence + q.segments) small.1 (omega arith)),
+      shelves-fenced qs (fence + q.segments) most k.1 (omega arith) (omega arith),
+    )
+
+shelves-count : (qs : List Processor) (fence : ℕ) → length (first_shelves qs fence) ≡ length qs
+shelves-count [] fence = refl
+shelves-count (q ∷ qs) fence = ap suc (shelves-count qs (fence + q.segments))
+
+-- ---- fences differ
+
+pub record Once (f from past n : ℕ) : Type 0 where
+  pub most : n ≤ 1
+  pub before : f < from → n ≡ 0
+  pub behind : past ≤ f → n ≡ 0
+
+rows-once : (f n id mask fence : ℕ) → Once f fence (fence + n) (count (λ r. r.fence == f) (first_rows n id mask fence))
+rows-once f zero id mask fence = record { most = omega arith; before = λ h. refl; behind = λ h. refl }
+rows-once f (suc n) id mask fence = at (fence == f) refl (rows-once f n (suc id) mask (suc fence))
+  where
+    rest : ℕ
+    rest = count (λ r. r.fence == f) (first_rows n (suc id) mask (suc fence))
+
+    at : (b : Bool) → (fence == f) ≡ b → Once f (suc fence) (suc fence + n) rest → Once f fence (fence + suc n) (one b + rest)
+    at true e h =
+        let same : fence ≡ f = grind (arith, nat_tests, e) in
+        let none : rest ≡ 0 = h.before (omega arith) in
+        record { most = omega arith; before = λ k. absurd (omega arith); behind = λ k. absurd (omega arith) }
+    at false e h =
+        let differ : (fence ≡ f) → ⊥ = grind (arith, nat_tests, e) in
+        let m : rest ≤ 1 = h.most in
+        record { most = omega arith; before = λ k. (let z : rest ≡ 0 = h.before (omega arith) in omega arith); behind = λ k. (let z : rest ≡ 0 = h.behind (omega arith) in omega arith) }
+
+shelves-once : (f : ℕ) (qs : List Processor) (fence : ℕ) → Once f fence (fence + row_count qs) (fence_count f (first_shelves qs fence))
+shelves-once f [] fence = record { most = omega arith; before = λ h. refl; behind = λ h. refl }
+shelves-once f (q ∷ qs) fence =
+    let a = rows-once f q.segments 0 (q.segments - 1) fence in
+    let b = shelves-once f qs (fence + q.segments) in
+    at (nat_lt f (fence + q.segments)) refl a b
+  where
+    here : ℕ
+    here = count (λ r. r.fence == f) (starting q.segments fence)
+
+    rest : ℕ
+    rest = fence_count f (first_shelves qs (fence + q.segments))
+
+    at : (c : Bool) → nat_lt f (fence + q.segments) ≡ c → Once f fence (fence + q.segments) here → Once f (fence + q.segments) (fence + q.segments + row_count qs) rest → Once f fence (fence + (q.segments + row_count qs)) (here + rest)
+    at true e a b =
+        let lt : f < fence + q.segments = grind (arith, nat_tests, e) in
+        let z : rest ≡ 0 = b.before lt in let m : here ≤ 1 = a.most in
+        record { most = omega arith; before = λ k. (let y : here ≡ 0 = a.before k in omega arith); behind = λ k. (let y : here ≡ 0 = a.behind (omega arith) in omega arith) }
+    at false e a b =
+        let le : fence + q.segments ≤ f = grind (arith, nat_tests, e) in
+        let z : here ≡ 0 = a.behind le in let m : rest ≤ 1 = b.most in
+        record { most = omega arith; before = λ k. absurd (omega arith); behind = λ k. (let y : rest ≡ 0 = b.behind (omega arith) in omega arith) }
+
+-- ---- the desks
+
+module _ (P : ℕ → Desk → Type 0) (f : (k : ℕ) → P k empty_desk) where
+  desks-empty : (k : ℕ) (actors : List Name) → AllFrom P k (map (λ actor. empty_desk) actors)
+  desks-empty k [] = tt
+  desks-empty k (a ∷ actors) = (f k, desks-empty (suc k) actors)
+
+module _ (P : Desk → Type 0) (h : P empty_desk) where
+  each-empty : (actors : List Name) → AllByRecursion P (map (λ actor. empty_desk) actors)
+  each-empty [] = tt
+  each-empty (a ∷ actors) = (h, each-empty actors)
+
+none-held : (i : ℕ) (actors : List Name) → count (λ d. holds_cell i d.reservation) (map (λ actor. empty_desk) actors) ≤ 1
+none-held i [] = omega arith
+none-held i (a ∷ actors) = let ih : count (λ d. holds_cell i d.reservation) (map (λ actor. empty_desk) actors) ≤ 1 = none-held i actors in omega arith
+
+desks-count : (actors : List Name) → length (map (λ actor. empty_desk) actors) ≡ length actors
+desks-count [] = refl
+desks-count (a ∷ actors) = ap suc (desks-count actors)
+
+-- ---- the whole
+
+pub starts : (s : Setting) → AreCommands s.sheet → IsSetting s → IsWellFormed (start s)
+starts s commands h = record {
+  sheet = commands;
+  log = record { numbered = λ a. tt; reserved = λ i a n w t e. absurd (cc); size = omega arith; small = refl };
+  clock = record { limit = omega arith; reserved = tt; kept = shelves-by s.processors 1 h.processors.counts };
+  reserved = record { each = desks-empty (λ k d. HoldsCells [] (name_at s.actors k) d) (λ k. tt) 0 s.actors; apart = λ i. none-held i s.actors };
+  places = places-first s s.processors 0 1 h.processors.counts;
+  declared = shelves-count s.processors 1;
+  actors = desks-count s.actors;
+  fences = record { distinct = λ f pos. (shelves-once f s.processors 1).most; within = shelves-fenced s.processors 1 (row_count s.processors) h.processors.counts (omega arith) (omega arith) };
+  desks = desks-empty (λ k d. IsSeat (row_count s.processors) (first_shelves s.processors 1) (name_at s.actors k) d) (λ k. record { held = tt; batch = tt }) 0 s.actors;
+  batches = each-empty (λ d. IfSome d.batch (IsBatchIn s [] (first_shelves s.processors 1))) tt s.actors;
+}

@@ -1,0 +1,7 @@
+pub mod Every
+pub mod Setting
+pub mod State
+pub mod Positions
+pub mod Portions
+pub mod WellFormed
+pub mod Answer

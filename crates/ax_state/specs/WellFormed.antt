@@ -1,0 +1,205 @@
+-- What holds of every state that can be reached. Each part takes the values that it reads: events, portions, and not cells and rows.
+use Rattle.std.specs.Prelude.{◌≡◌, ℕ, ◌+◌, ◌^◌, ◌<◌, ◌≤◌, ◌==◌, Bool, true, false, not, ◌&&◌, ◌||◌, List, [], ◌∷◌, map, length, filter, Option, Some, None, IsOk, IsTrue, IfSome, nat_lt, nat_le, slice_get}
+use Rattle.std.specs.List.{AllByRecursion, list_all}
+use Rattle.ax_values.specs.Grammar.{Name, ItemName}
+use Rattle.ax_values.specs.Words.{rises}
+use Rattle.ax_log.specs.Log.{Stored, events, stream_in, is_settled}
+use Rattle.ax_log.specs.Order.{IsOrdered, has_few_fields}
+use Rattle.ax_log.specs.Answers.{AreOf, aggregate_of}
+use Rattle.ax_segments.specs.Segments.{Segment, hash_of, matches}
+use Rattle.ax_tokens.specs.Plain.{Plain, has, contains, plain_of, is_canonical_plain}
+use Rattle.ax_tokens.specs.Tokens.{Token, plain, merged, replay, collapsed, parts, gaps_fit, masks_fit}
+use Rattle.ax_sheet.specs.Sheet.{Sheet, command_fits}
+use Rattle.ax_claims.specs.Rows.{TokenRow}
+use Rattle.ax_state.specs.Every.{AllFrom, count}
+use Rattle.ax_state.specs.Setting.{Setting, name_at, is_projection, is_saga, projection_at}
+use Rattle.ax_state.specs.State.{State, Shelf, Desk, Batch, Reservation}
+use Rattle.ax_state.specs.Positions.{first_letter, drops_of}
+use Rattle.ax_state.specs.Portions.{Portion, portions, put_portion, covered_by, covered_events, row_by}
+use Rattle.ax_values.specs.declared.cell.Cell.{Cell}
+
+-- ---- the sheet
+
+-- each command has 1 to 8 events with at most 16 fields each, and its guards use fields of the aggregate
+abbrev pub AreCommands : Sheet → Type 0
+AreCommands sheet = IsTrue (list_all (λ named. command_fits (length sheet.aggregate.fields) named.command) sheet.commands)
+
+-- ---- the clock
+
+abbrev pub reserved_by : ℕ → Cell → Type 0
+reserved_by now (Cell.Reserved a s w t) = t ≤ now
+reserved_by now Cell.Void = Unit {0}
+reserved_by now (Cell.Event r) = Unit {0}
+
+abbrev pub IsShelfBy : ℕ → Shelf → Type 0
+IsShelfBy now shelf = AllByRecursion (λ r. r.since ≤ now) shelf.rows
+
+-- no moment is after the clock
+pub record IsClock (now : ℕ) (cells : List Cell) (shelves : List Shelf) : Type 0 where
+  pub limit : now ≤ 10 ^ 18
+  pub reserved : AllByRecursion (reserved_by now) cells
+  pub kept : AllByRecursion (IsShelfBy now) shelves
+
+-- ---- reservations
+
+-- the cell is void, or still reserved for the aggregate, first number and actor
+abbrev pub IsHeldCell : Name → ℕ → Name → Option Cell → Type 0
+IsHeldCell a s w None = ⊥
+IsHeldCell a s w (Some Cell.Void) = Unit {0}
+IsHeldCell a s w (Some (Cell.Event r)) = ⊥
+IsHeldCell a s w (Some (Cell.Reserved b t v at)) = (b ≡ a) × (t ≡ s) × (v ≡ w)
+
+-- records of one aggregate, numbered from the first number, each with few fields, and a cell for each
+pub record IsReservation (cells : List Cell) (actor : Name) (r : Reservation) : Type 0 where
+  pub some : 0 < length r.records
+  pub numbered : AreOf (aggregate_of r.records) r.first_seq r.records
+  pub small : IsTrue (list_all has_few_fields r.records)
+  pub held : (k : ℕ) → k < length r.records → IsHeldCell (aggregate_of r.records) r.first_seq actor (slice_get cells (r.first + k))
+
+abbrev pub HoldsCells : List Cell → Name → Desk → Type 0
+HoldsCells cells actor desk = IfSome desk.reservation (IsReservation cells actor)
+
+abbrev pub holds_cell : ℕ → Option Reservation → Bool
+holds_cell i None = false
+holds_cell i (Some r) = nat_le r.first i && nat_lt i (r.first + length r.records)
+
+-- no two desks hold one cell
+pub record AreReserved (cells : List Cell) (actors : List Name) (desks : List Desk) : Type 0 where
+  pub each : AllFrom (λ k d. HoldsCells cells (name_at actors k) d) 0 desks
+  pub apart : (i : ℕ) → count (λ d. holds_cell i d.reservation) desks ≤ 1
+
+-- ---- tokens
+
+-- canonical, within the cells, and without a reserved one
+pub record IsPlainOver (cells : List Cell) (p : Plain) : Type 0 where
+  pub canonical : IsTrue (is_canonical_plain p)
+  pub within : p.next ≤ length cells
+  pub settled : (i : ℕ) → IsTrue (has p i) → IsTrue (is_settled cells i)
+
+-- every part is so; halves stand under masks of the grammar, there are few gaps, and nothing is left to collapse
+pub record IsTokenOver (cells : List Cell) (mask : ℕ) (t : Token) : Type 0 where
+  pub each : AllByRecursion (IsPlainOver cells) (parts t)
+  pub masks : IsTrue (masks_fit mask t)
+  pub gaps : IsTrue (gaps_fit t)
+  pub stays : collapsed t ≡ t
+
+-- the segments rise, and match each hash of 32 bits once
+pub record AreParts (ps : List Portion) : Type 0 where
+  pub order : IsTrue (rises (λ x y. nat_lt x.segment.id y.segment.id) ps)
+  pub once : (h : ℕ) → h < 2 ^ 32 → length (filter (λ x. matches x.segment h) ps) ≡ 1
+
+abbrev pub AreTokens : List Cell → List Portion → Type 0
+AreTokens cells ps = AllByRecursion (λ x. IsTokenOver cells x.segment.mask x.token) ps
+
+-- a token of a saga processor has no gap and no replay
+abbrev pub is_gapless : Token → Bool
+is_gapless (plain p) = length p.gaps == 0
+is_gapless (merged l u) = is_gapless l && is_gapless u
+is_gapless (replay r c) = false
+
+-- ---- what the tokens cover
+
+-- once it fails, it fails from there on
+abbrev pub is_prefix_test : List Bool → Bool
+is_prefix_test [] = true
+is_prefix_test (true ∷ bs) = is_prefix_test bs
+is_prefix_test (false ∷ bs) = list_all not bs
+
+-- the covered events of each aggregate are a prefix of its stream
+abbrev pub CoverPrefix : List Stored → List Portion → Type 0
+CoverPrefix es ps = (a : Name) → IsTrue (is_prefix_test (map (λ e. covered_by ps (hash_of a) e.index) (stream_in a es)))
+
+-- of the covered events cs: every row of a projection is defined
+abbrev pub HasRows : Setting → ℕ → List Stored → (Name → Option ItemName) → List ItemName → Type 0
+HasRows setting p cs first drops = IsTrue (is_projection setting p) → (a : Name) → IsOk (row_by (projection_at setting p) setting.sheet.chain cs (first a) drops a)
+
+-- all that is read off events and portions
+pub record IsFolded (setting : Setting) (p : ℕ) (es : List Stored) (ps : List Portion) (first : Name → Option ItemName) (drops : List ItemName) : Type 0 where
+  pub prefixes : CoverPrefix es ps
+  pub rows : HasRows setting p (covered_events ps es) first drops
+
+-- a row without an owner has claim time 0
+abbrev pub IsOwnedRight : TokenRow → Type 0
+IsOwnedRight r = r.owner ≡ None → r.since ≡ 0
+
+-- what holds of the shelf of the processor p
+pub record IsPlace (setting : Setting) (cells : List Cell) (p : ℕ) (shelf : Shelf) : Type 0 where
+  pub parts : AreParts (portions shelf.rows)
+  pub tokens : AreTokens cells (portions shelf.rows)
+  pub folded : IsFolded setting p (events cells) (portions shelf.rows) (first_letter shelf) (drops_of shelf)
+  pub gapless : IsTrue (is_saga setting p) → AllByRecursion (λ x. IsTrue (is_gapless x.token)) (portions shelf.rows)
+  pub owners : AllByRecursion IsOwnedRight shelf.rows
+
+-- ---- fences
+
+abbrev pub fence_count : ℕ → List Shelf → ℕ
+fence_count f [] = 0
+fence_count f (s ∷ ss) = count (λ r. r.fence == f) s.rows + fence_count f ss
+
+abbrev pub IsFencedShelf : ℕ → Shelf → Type 0
+IsFencedShelf fence s = AllByRecursion (λ r. (0 < r.fence) × (r.fence ≤ fence)) s.rows
+
+-- the fences of rows are distinct, above 0 and at most the counter
+pub record AreFenced (fence : ℕ) (shelves : List Shelf) : Type 0 where
+  pub distinct : (f : ℕ) → 0 < f → fence_count f shelves ≤ 1
+  pub within : AllByRecursion (IsFencedShelf fence) shelves
+
+-- ---- desks
+
+-- what a desk holds of a row's fence, it holds for that row's processor and segment, as the row's owner
+abbrev pub OwnsRow : Name → ℕ → Segment → ℕ → ℕ → TokenRow → Type 0
+OwnsRow actor q s fence k r = r.fence ≡ fence → (k ≡ q) × (r.segment ≡ s) × (r.owner ≡ Some actor)
+
+abbrev pub OwnsAs : Name → List Shelf → ℕ → Segment → ℕ → Type 0
+OwnsAs actor shelves q s fence = AllFrom (λ k shelf. AllByRecursion (OwnsRow actor q s fence k) shelf.rows) 0 shelves
+
+pub record IsSeat (fence : ℕ) (shelves : List Shelf) (actor : Name) (desk : Desk) : Type 0 where
+  pub held : AllByRecursion (λ h. (h.fence ≤ fence) × OwnsAs actor shelves h.processor h.segment h.fence) desk.held
+  pub batch : IfSome desk.batch (λ b. (b.fence ≤ fence) × OwnsAs actor shelves b.processor b.segment b.fence)
+
+-- ---- batches
+
+-- the token with a set of indexes below a bound added to every part but the first of a replay
+abbrev pub with_added : (ℕ → Bool) → ℕ → Token → Token
+with_added test n (plain p) = plain (plain_of (λ i. has p i || test i) n)
+with_added test n (merged l u) = merged (with_added test n l) (with_added test n u)
+with_added test n (replay r c) = replay r (plain_of (λ i. has c i || test i) n)
+
+-- the new token is the old one with settled cells added, collapsed
+pub record Advanced (cells : List Cell) (old new : Token) : Type 0 where
+  pub added : List ℕ
+  pub bound : ℕ
+  pub settled : AllByRecursion (λ i. IsTrue (is_settled cells i)) added
+  pub new_is : new ≡ collapsed (with_added (contains added) bound old)
+
+-- of a batch whose row, with the token t, stands under the batch's fence
+pub record IsStanding (cells : List Cell) (ps : List Portion) (b : Batch) (t : Token) : Type 0 where
+  pub old : b.old ≡ t
+  pub new : Advanced cells b.old b.new
+  pub token : IsTokenOver cells b.segment.mask b.new
+  pub prefixes : CoverPrefix (events cells) (put_portion (record { segment = b.segment; token = b.new }) ps)
+
+abbrev pub IsBatchRow : List Cell → List Portion → Batch → TokenRow → Type 0
+IsBatchRow cells ps b r = r.segment ≡ b.segment → r.fence ≡ b.fence → IsStanding cells ps b r.token
+
+-- of the shelf of the processor q
+abbrev pub IsBatchAt : List Cell → Batch → ℕ → Shelf → Type 0
+IsBatchAt cells b q shelf = q ≡ b.processor → AllByRecursion (IsBatchRow cells (portions shelf.rows) b) shelf.rows
+
+pub record IsBatchIn (setting : Setting) (cells : List Cell) (shelves : List Shelf) (b : Batch) : Type 0 where
+  pub declared : IsTrue (is_projection setting b.processor)
+  pub rows : AllFrom (IsBatchAt cells b) 0 shelves
+
+-- ---- the whole
+
+pub record IsWellFormed (m : State) : Type 0 where
+  pub sheet : AreCommands m.setting.sheet
+  pub log : IsOrdered m.cells
+  pub clock : IsClock m.clock m.cells m.shelves
+  pub reserved : AreReserved m.cells m.setting.actors m.desks
+  pub places : AllFrom (IsPlace m.setting m.cells) 0 m.shelves
+  pub declared : length m.shelves ≡ length m.setting.processors
+  pub actors : length m.desks ≡ length m.setting.actors
+  pub fences : AreFenced m.fence m.shelves
+  pub desks : AllFrom (λ k d. IsSeat m.fence m.shelves (name_at m.setting.actors k) d) 0 m.desks
+  pub batches : AllByRecursion (λ d. IfSome d.batch (IsBatchIn m.setting m.cells m.shelves)) m.desks

@@ -1,0 +1,2 @@
+//! Steps on claims: an actor takes a segment.
+#![tactic(auto)]

@@ -1,0 +1,4 @@
+pub mod Released
+pub mod Decisions
+pub mod SendKept
+pub mod AppendKept

@@ -1,0 +1,89 @@
+-- Steps on the log: send and append.
+use Rattle.std.specs.Prelude.{ℕ, zero, suc, ◌+◌, ◌==◌, List, [], ◌∷◌, ◌++◌, map, length, replicate, Option, Some, None, nat_lt, if◌then◌else◌}
+use Rattle.ax_values.specs.Grammar.{Name}
+use Rattle.ax_values.specs.Words.{Payload}
+use Rattle.ax_log.specs.Log.{length_of, put_cells}
+use Rattle.ax_log.specs.Order.{max_cells}
+use Rattle.ax_log.specs.Answers.{aggregate_of, void_among}
+use Rattle.ax_sheet.specs.Sheet.{command_named}
+use Rattle.ax_sheet.specs.Decision.{decision}
+use Rattle.ax_state.specs.State.{State, Reservation, desk_at, with_desk, with_cells, actor_name}
+use Rattle.ax_state.specs.Positions.{aggregate_state}
+use Rattle.ax_state.specs.Answer.{Answer, answer}
+use Rattle.ax_values.specs.declared.cell.Cell.{Cell}
+use Rattle.ax_values.specs.declared.record.Record.{Record}
+use Rattle.ax_upcast.specs.declared.event.Event.{Event}
+use Rattle.ax_sheet.specs.declared.parts.Command.{Command}
+use Rattle.ax_sheet.specs.declared.decision.Decided.{Decided}
+use Rattle.ax_journal.specs.declared.reply.Reply.{Reply}
+
+-- ---- reservations given up
+
+abbrev pub voided : Cell → Cell
+voided (Cell.Reserved a s w t) = Cell.Void
+voided Cell.Void = Cell.Void
+voided (Cell.Event r) = Cell.Event r
+
+-- n cells from an index on, the reserved ones of them made void
+abbrev pub void_from : ℕ → ℕ → List Cell → List Cell
+void_from i n [] = []
+void_from zero zero (c ∷ cells) = c ∷ cells
+void_from zero (suc n) (c ∷ cells) = voided c ∷ void_from zero n cells
+void_from (suc i) n (c ∷ cells) = c ∷ void_from i n cells
+
+-- the cells without a reservation
+abbrev pub released : Option Reservation → List Cell → List Cell
+released None cells = cells
+released (Some r) cells = void_from r.first (length r.records) cells
+
+abbrev pub with_reservation : ℕ → Option Reservation → State → State
+with_reservation actor r m = with_desk actor (record (desk_at m actor) { reservation = r }) m
+
+-- ---- send
+
+-- the events as records of an aggregate, numbered from seq
+abbrev pub as_records : Name → ℕ → List Event → List Record
+as_records a seq [] = []
+as_records a seq (e ∷ es) = record { aggregate = a; seq = seq; kind = e.kind; revision = e.revision; payload = e.payload } ∷ as_records a (suc seq) es
+
+-- a reservation at the end of the log, for events that go on with the aggregate's stream
+abbrev pub reservation_of : State → Name → List Event → Reservation
+reservation_of m a es = record { first = length m.cells; first_seq = length_of a m.cells; records = as_records a (length_of a m.cells) es }
+
+-- the cells without the desk's older reservation, and as many reserved ones at the end
+abbrev pub reserved_cells : State → ℕ → Name → ℕ → List Cell
+reserved_cells m actor a n = released (desk_at m actor).reservation m.cells ++ replicate n (Cell.Reserved a (length_of a m.cells) (actor_name m actor) m.clock)
+
+abbrev pub sent_events : State → ℕ → Name → List Event → Answer
+sent_events m actor a es =
+    if nat_lt max_cells (length m.cells + length es) then answer m Reply.LogFull
+    else answer (with_reservation actor (Some (reservation_of m a es)) (with_cells (reserved_cells m actor a (length es)) m)) (Reply.Reserved (length m.cells) (length es) (length_of a m.cells))
+
+abbrev pub sent_decided : State → ℕ → Name → Decided → Answer
+sent_decided m actor a (Decided.Guard g) = answer m (Reply.GuardFails g)
+sent_decided m actor a (Decided.Events es) = sent_events m actor a es
+
+-- scripts name declared commands alone
+abbrev pub sent_by : State → ℕ → Name → Payload → Option Command → Answer
+sent_by m actor a args None = answer m Reply.NoReservation
+sent_by m actor a args (Some c) = sent_decided m actor a (decision c args (aggregate_state m a))
+
+abbrev pub send : State → ℕ → Name → Name → Payload → Answer
+send m actor a command args = sent_by m actor a args (command_named m.setting.sheet command)
+
+-- ---- append
+
+-- the events are in the log, or a conflict gives up the reserved cells
+abbrev pub appended_unless : State → ℕ → Reservation → Option ℕ → Answer
+appended_unless m actor r (Some i) = answer m (Reply.VoidedCell i)
+appended_unless m actor r None =
+    if length_of (aggregate_of r.records) m.cells == r.first_seq
+    then answer (with_reservation actor None (with_cells (put_cells r.first (map Cell.Event r.records) m.cells) m)) (Reply.Appended r.first_seq (length r.records))
+    else answer (with_reservation actor None (with_cells (released (Some r) m.cells) m)) (Reply.Conflict r.first_seq (length_of (aggregate_of r.records) m.cells))
+
+abbrev pub appended : State → ℕ → Option Reservation → Answer
+appended m actor None = answer m Reply.NoReservation
+appended m actor (Some r) = appended_unless m actor r (void_among m.cells r.first r.records)
+
+abbrev pub append : State → ℕ → Answer
+append m actor = appended m actor (desk_at m actor).reservation

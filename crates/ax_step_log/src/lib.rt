@@ -1,0 +1,2 @@
+//! Steps on the log: a command reserves cells for its events, and the events take them.
+#![tactic(auto)]

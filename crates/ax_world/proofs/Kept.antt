@@ -1,0 +1,76 @@
+-- What is kept of processors, where one of them changes.
+use Rattle.std.proofs.Common.{◌≡◌, ℕ, zero, suc, ◌+◌, ◌<◌, ◌≤◌, ◌==◌, Bool, true, false, List, [], ◌∷◌, map, length, slice_get, slice_set, get_or, refl, sym, ap, ◌∙◌, subst, arith}
+use Rattle.std.proofs.lemmas.Bool.Decides.{nat_tests}
+use Rattle.std.proofs.lemmas.List.{length-map}
+use Rattle.ax_state.specs.Every.{option_or, one}
+use Rattle.ax_world.specs.Whole.{PlaceView, room_in}
+
+pub map_set : {A B : Type 0} (f : A → B) (xs : List A) (p : ℕ) (y : A) → map f (slice_set xs p y) ≡ slice_set (map f xs) p (f y)
+map_set f [] p y = refl
+map_set f (x ∷ xs) zero y = refl
+map_set f (x ∷ xs) (suc p) y = ap (λ ys. f x ∷ ys) (map_set f xs p y)
+
+pub at_map : {A B : Type 0} (f : A → B) (d : B) (xs : List A) (p : ℕ) (x : A) → p < length xs → x ≡ get_or xs p x → option_or d (slice_get (map f xs) p) ≡ f x
+at_map f d [] p x h e = absurd (omega arith)
+at_map f d (y ∷ ys) zero x h e = ap f (sym e)
+at_map f d (y ∷ ys) (suc p) x h e = at_map f d ys p x (omega arith) e
+
+-- what is put there is what was there
+pub set_same : {A : Type 0} (d : A) (xs : List A) (p : ℕ) → slice_set xs p (option_or d (slice_get xs p)) ≡ xs
+set_same d [] p = refl
+set_same d (x ∷ xs) zero = refl
+set_same d (x ∷ xs) (suc p) = ap (λ ys. x ∷ ys) (set_same d xs p)
+
+next_equal : (p q : ℕ) (b : Bool) → (p == q) ≡ b → (suc p == suc q) ≡ b
+next_equal p q true h = grind (arith, nat_tests, h)
+next_equal p q false h = grind (arith, nat_tests, h)
+
+pub rooms_less : (rooms : List ℕ) (p n : ℕ) → room_in rooms p ≤ n + 1 → (q : ℕ) → room_in rooms q ≤ room_in (slice_set rooms p n) q + one (p == q)
+rooms_less [] p n h q = omega arith
+rooms_less (r ∷ rs) zero n h zero = omega arith
+rooms_less (r ∷ rs) zero n h (suc q) = omega arith
+rooms_less (r ∷ rs) (suc p) n h zero = omega arith
+rooms_less (r ∷ rs) (suc p) n h (suc q) = subst (λ b. room_in rs q ≤ room_in (slice_set rs p n) q + one b) (sym (next_equal p q (p == q) refl)) (rooms_less rs p n h q)
+
+-- one element is replaced by what g makes of it, as f sees them
+pub placed : {A B : Type 0} (f : A → B) (d : B) (g : B → B) (xs : List A) (p : ℕ) (x y : A) → p < length xs → x ≡ get_or xs p x → f y ≡ g (f x)
+    → map f (slice_set xs p y) ≡ slice_set (map f xs) p (g (option_or d (slice_get (map f xs) p)))
+placed f d g xs p x y h e k = map_set f xs p y ∙ ap (slice_set (map f xs) p) (k ∙ ap g (sym (at_map f d xs p x h e)))
+
+-- what f does not tell apart from what was there
+pub unseen : {A B : Type 0} (f : A → B) (d : B) (xs : List A) (p : ℕ) (x y : A) → p < length xs → x ≡ get_or xs p x → f y ≡ f x → map f (slice_set xs p y) ≡ map f xs
+unseen f d xs p x y h e k = map_set f xs p y ∙ ap (slice_set (map f xs) p) (k ∙ sym (at_map f d xs p x h e)) ∙ set_same d (map f xs) p
+
+pub rooms-used : (xs : List PlaceView) (p : ℕ) (x y : PlaceView) → p < length xs → x ≡ get_or xs p x → x.room ≤ y.room + 1 → (q : ℕ) → room_in (map (λ x. x.room) xs) q ≤ room_in (map (λ x. x.room) (slice_set xs p y)) q + one (p == q)
+rooms-used xs p x y h e k q =
+    let was : room_in (map (λ x. x.room) xs) p ≡ x.room = at_map (λ x. x.room) 0 xs p x h e in
+    subst (λ rooms. room_in (map (λ x. x.room) xs) q ≤ room_in rooms q + one (p == q)) (sym (map_set (λ x. x.room) xs p y))
+    (rooms_less (map (λ x. x.room) xs) p y.room (subst (λ n. n ≤ y.room + 1) (sym was) k) q)
+
+below-set : (rooms : List ℕ) (p n q : ℕ) → q < p → room_in (slice_set rooms p n) q ≡ room_in rooms q
+below-set [] p n q h = refl
+below-set (r ∷ rs) zero n q h = absurd (omega arith)
+below-set (r ∷ rs) (suc p) n zero h = refl
+below-set (r ∷ rs) (suc p) n (suc q) h = below-set rs p n q (omega arith)
+
+at-set : (rooms : List ℕ) (p n : ℕ) → p < length rooms → room_in (slice_set rooms p n) p ≡ n
+at-set [] p n h = absurd (omega arith)
+at-set (r ∷ rs) zero n h = refl
+at-set (r ∷ rs) (suc p) n h = at-set rs p n (omega arith)
+
+-- with room in one table more
+pub rooms-next : (need : ℕ → ℕ) (xs : List PlaceView) (p : ℕ) (y : PlaceView) → p < length xs → need p ≤ y.room → ((q : ℕ) → q < p → need q ≤ room_in (map (λ x. x.room) xs) q)
+    → (q : ℕ) → q < p + 1 → need q ≤ room_in (map (λ x. x.room) (slice_set xs p y)) q
+rooms-next need xs p y h enough so_far q lt =
+    subst (λ rooms. need q ≤ room_in rooms q) (sym (map_set (λ x. x.room) xs p y)) (at (p == q) refl)
+  where
+    here : p < length (map (λ x. x.room) xs)
+    here = let l : length (map (λ x. x.room) xs) ≡ length xs = length-map xs (λ x. x.room) in omega arith
+
+    at : (b : Bool) → (p == q) ≡ b → need q ≤ room_in (slice_set (map (λ x. x.room) xs) p y.room) q
+    at true e =
+        let same : p ≡ q = grind (arith, nat_tests, e) in
+        subst (λ q. need q ≤ room_in (slice_set (map (λ x. x.room) xs) p y.room) q) same (subst (λ n. need p ≤ n) (sym (at-set (map (λ x. x.room) xs) p y.room here)) enough)
+    at false e =
+        let less : q < p = grind (arith, nat_tests, e, lt) in
+        subst (λ n. need q ≤ n) (sym (below-set (map (λ x. x.room) xs) p y.room q less)) (so_far q less)

@@ -1,0 +1,5 @@
+pub mod Kept
+pub mod Rooms
+pub mod Segments
+pub mod Starts
+pub mod Moves

@@ -1,0 +1,8 @@
+use Rattle.std.proofs.Common.{sym, ap}
+use Rattle.ax_world.proofs.Rooms.{room-made}
+use Rattle.ax_world.proofs.parts.Parts.prepare.Goals as goal
+
+pub returns-clause-room : goal.returns-clause-room
+returns-clause-room c =
+    room-made c.reserve_rows.result c.args.self.now.whole c.args.edits.now c.reserve_cells.new.log.room c.self.inside.places.items c.reserve_rows.new.places.items c.requires.can
+    (ap (λ v. v.whole.places) (sym c.self.view_is)) c.reserve_rows.ensures.places c.in_ok-reserve_cells.ensures.room c.reserve_rows.ensures.rooms

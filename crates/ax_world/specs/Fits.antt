@@ -1,0 +1,99 @@
+-- What every world keeps, and which edits can be made of it.
+use Rattle.std.specs.Prelude.{◌≡◌, ℕ, ◌+◌, ◌-◌, ◌^◌, ◌<◌, ◌≤◌, ◌==◌, Bool, true, false, List, [], ◌∷◌, length, Option, Some, None, nat_lt, if◌then◌else◌}
+use Rattle.std.specs.List.{AllByRecursion}
+use Rattle.ax_values.specs.Grammar.{Name}
+use Rattle.ax_log.specs.Log.{Stored, events}
+use Rattle.ax_log.specs.Puts.{CanPutAll}
+use Rattle.ax_rules.specs.Rules.{start_row, row_or}
+use Rattle.ax_projections.specs.Table.{look_up}
+use Rattle.ax_state.specs.Every.{AllFrom, count, one}
+use Rattle.ax_state.specs.Setting.{Setting, IsSetting, projection_at}
+use Rattle.ax_state.specs.State.{Shelf}
+use Rattle.ax_state.specs.Positions.{first_letter, drops_of}
+use Rattle.ax_state.specs.Portions.{portions, covered_events, position_by, row_by}
+use Rattle.ax_state.specs.WellFormed.{IsWellFormed}
+use Rattle.ax_world.specs.Whole.{Whole, Place, Room, state_of, place_at, rows_room}
+use Rattle.ax_world.specs.Made.{made, made_all}
+use Rattle.ax_projections.specs.declared.table.Positioned.{Positioned}
+use Rattle.ax_world.specs.declared.edit.Edit.{Edit}
+
+-- ---- worlds
+
+-- the row of an aggregate by the covered events cs, where its position is at least 1
+abbrev pub row_if : Setting → ℕ → List Stored → Shelf → Name → ℕ → Option Positioned
+row_if setting p cs shelf a n =
+    if nat_lt 0 n then Some (record { position = n; row = row_or (start_row (projection_at setting p).fields) (row_by (projection_at setting p) setting.sheet.chain cs (first_letter shelf a) (drops_of shelf) a) }) else None
+
+abbrev pub folded_row : Setting → ℕ → List Stored → Shelf → Name → Option Positioned
+folded_row setting p cs shelf a = row_if setting p cs shelf a (position_by setting.sheet.chain cs (first_letter shelf a) a)
+
+-- each kept row is the fold of the log, and each fold is kept
+abbrev pub IsTable : Setting → List Stored → ℕ → Place → Type 0
+IsTable setting es p x = (a : Name) → look_up a x.table ≡ folded_row setting p (covered_events (portions x.shelf.rows) es) x.shelf a
+
+pub record IsWorld (w : Whole) : Type 0 where
+  pub setting : IsSetting w.setting
+  pub state : IsWellFormed (state_of w)
+  pub tables : AllFrom (IsTable w.setting (events w.cells)) 0 w.places
+
+-- ---- edits
+
+-- a new row finds a place in its table
+abbrev pub HasPlaceFor : Name → Place → Type 0
+HasPlaceFor a x = look_up a x.table ≡ None → length x.table < 2 ^ 32 - 1
+
+-- its numbers are declared, and its calls have their conditions, room apart
+abbrev pub CanMake : Whole → Edit → Type 0
+CanMake w (Edit.Clock now) = Unit {0}
+CanMake w (Edit.Fence fence) = Unit {0}
+CanMake w (Edit.Cells puts) = CanPutAll w.cells puts
+CanMake w (Edit.SetRows p rows) = p < length w.places
+CanMake w (Edit.PutRow p a v) = (p < length w.places) × HasPlaceFor a (place_at w p)
+CanMake w (Edit.SetDesk k desk) = k < length w.desks
+
+abbrev pub CanMakeAll : Whole → List Edit → Type 0
+CanMakeAll w [] = Unit {0}
+CanMakeAll w (e ∷ es) = CanMake w e × CanMakeAll (made w e) es
+
+abbrev pub is_cells : Edit → Bool
+is_cells (Edit.Clock now) = false
+is_cells (Edit.Fence fence) = false
+is_cells (Edit.Cells puts) = true
+is_cells (Edit.SetRows p rows) = false
+is_cells (Edit.PutRow p a v) = false
+is_cells (Edit.SetDesk k desk) = false
+
+-- they can be made one after another, at most one of them puts cells, and what is kept then is a world
+pub record Fits (w : Whole) (es : List Edit) : Type 0 where
+  pub single : count is_cells es ≤ 1
+  pub can : CanMakeAll w es
+  pub world : IsWorld (made_all es w)
+
+-- ---- room
+
+-- how many cells an edit puts, and how many rows of a processor
+abbrev pub cells_put : Edit → ℕ
+cells_put (Edit.Clock now) = 0
+cells_put (Edit.Fence fence) = 0
+cells_put (Edit.Cells puts) = length puts
+cells_put (Edit.SetRows p rows) = 0
+cells_put (Edit.PutRow p a v) = 0
+cells_put (Edit.SetDesk k desk) = 0
+
+abbrev pub puts_row : ℕ → Edit → Bool
+puts_row q (Edit.Clock now) = false
+puts_row q (Edit.Fence fence) = false
+puts_row q (Edit.Cells puts) = false
+puts_row q (Edit.SetRows p rows) = false
+puts_row q (Edit.PutRow p a v) = p == q
+puts_row q (Edit.SetDesk k desk) = false
+
+-- the edits take no memory
+pub record HasRoom (room : Room) (es : List Edit) : Type 0 where
+  pub cells : AllByRecursion (λ e. cells_put e ≤ room.cells) es
+  pub rows : (q : ℕ) → count (puts_row q) es ≤ rows_room room q
+
+-- what an edit leaves of the room
+pub record Leaves (old new : Room) (e : Edit) : Type 0 where
+  pub cells : old.cells ≤ new.cells + cells_put e
+  pub rows : (q : ℕ) → rows_room old q ≤ rows_room new q + one (puts_row q e)

@@ -1,0 +1,4 @@
+pub mod Whole
+pub mod Made
+pub mod Fits
+pub mod Moves

@@ -1,0 +1,165 @@
+ghost use Rattle.std.specs.Prelude.{◌≡◌, IfOk};
+
+use ax_segments::Segment;
+use ax_tokens::Token;
+use ax_values::{Duplicate, ListOf, NoMemory, Records};
+use std::alloc::Global;
+use std::marker::Model;
+
+/// The fence of a claim.
+#[derive(Drop)]
+pub struct Held {
+    pub processor: u32,
+    pub segment: Segment,
+    pub fence: u64,
+}
+
+pub type HeldList = ListOf<Held>;
+
+/// Cells of the log from `first` on, for records that go on with a stream from its number `first_seq` on.
+#[derive(Drop)]
+pub struct Reservation {
+    pub first: u32,
+    pub first_seq: u32,
+    pub records: Records,
+}
+
+/// What a fetch advances from and to, of the segment of a processor, under the fence of its row.
+#[derive(Drop)]
+pub struct Batch {
+    pub processor: u32,
+    pub segment: Segment,
+    pub fence: u64,
+    pub old: Token,
+    pub new: Token,
+}
+
+/// What one actor holds.
+#[derive(Drop)]
+pub struct Desk {
+    pub held: HeldList,
+    pub reservation: Option<Reservation>,
+    pub batch: Option<Batch>,
+}
+
+impl Model for Held {
+    ghost use Rattle.ax_state.specs.State.{Held as Kept};
+
+    ghost Value = { Kept };
+
+    ghost view = { λ held. record { processor = held.processor; segment = held.segment; fence = held.fence } };
+}
+
+impl Model for Reservation {
+    ghost use Rattle.ax_state.specs.State.{Reservation as Kept};
+
+    ghost Value = { Kept };
+
+    ghost view = { λ held. record { first = held.first; first_seq = held.first_seq; records = held.records } };
+}
+
+impl Model for Batch {
+    ghost use Rattle.std.specs.Coded.{codes};
+    ghost use Rattle.ax_tokens.specs.TokenCode.{coded_token};
+    ghost use Rattle.ax_tokens.specs.Nodes.{token_of};
+    ghost use Rattle.ax_state.specs.State.{Batch as Kept};
+
+    ghost Value = { Kept };
+
+    ghost coded = { Prim.hlevel (codes, coded_token) };
+
+    ghost view = { λ batch. record { processor = batch.processor; segment = batch.segment; fence = batch.fence; old = token_of batch.old; new = token_of batch.new } };
+}
+
+impl Model for Desk {
+    ghost use Rattle.std.specs.Coded.{codes};
+    ghost use Rattle.ax_tokens.specs.TokenCode.{coded_token};
+    ghost use Rattle.ax_state.specs.State.{Desk as Kept};
+
+    ghost Value = { Kept };
+
+    ghost coded = { Prim.hlevel (codes, coded_token) };
+
+    ghost view = { λ desk. record { held = desk.held; reservation = desk.reservation; batch = desk.batch } };
+}
+
+impl Duplicate for Held {
+    fn copy(&self, _alloc: Global) -> Result<Held, NoMemory> {
+        Ok(Held {
+            processor: self.processor,
+            segment: self.segment,
+            fence: self.fence,
+        })
+    }
+}
+
+impl Duplicate for Reservation {
+    fn copy(&self, alloc: Global) -> Result<Reservation, NoMemory> {
+        Ok(Reservation {
+            first: self.first,
+            first_seq: self.first_seq,
+            records: self.records.copy(alloc)?,
+        })
+    }
+}
+
+impl Duplicate for Batch {
+    fn copy(&self, alloc: Global) -> Result<Batch, NoMemory> {
+        Ok(Batch {
+            processor: self.processor,
+            segment: self.segment,
+            fence: self.fence,
+            old: self.old.copy(alloc)?,
+            new: self.new.copy(alloc)?,
+        })
+    }
+}
+
+impl Duplicate for Desk {
+    fn copy(&self, alloc: Global) -> Result<Desk, NoMemory> {
+        Ok(Desk {
+            held: self.held.copy(alloc)?,
+            reservation: self.reservation.copy(alloc)?,
+            batch: self.batch.copy(alloc)?,
+        })
+    }
+}
+
+impl Desk {
+    /// A copy with another reservation.
+    pub fn with_reservation(
+        &self,
+        alloc: Global,
+        reservation: Option<Reservation>,
+    ) -> Result<Desk, NoMemory>
+        ensures { IfOk result (λ desk. desk ≡ record self.now { reservation = reservation }) }
+    {
+        Ok(Desk {
+            held: self.held.copy(alloc)?,
+            reservation,
+            batch: self.batch.copy(alloc)?,
+        })
+    }
+
+    /// A copy with other fences held.
+    pub fn with_held(&self, alloc: Global, held: HeldList) -> Result<Desk, NoMemory>
+        ensures { IfOk result (λ desk. desk ≡ record self.now { held = held }) }
+    {
+        Ok(Desk {
+            held,
+            reservation: self.reservation.copy(alloc)?,
+            batch: self.batch.copy(alloc)?,
+        })
+    }
+
+    /// A copy with another batch.
+    pub fn with_batch(&self, alloc: Global, batch: Option<Batch>) -> Result<Desk, NoMemory>
+        ensures { IfOk result (λ desk. desk ≡ record self.now { batch = batch }) }
+    {
+        Ok(Desk {
+            held: self.held.copy(alloc)?,
+            reservation: self.reservation.copy(alloc)?,
+            batch,
+        })
+    }
+}

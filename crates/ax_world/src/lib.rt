@@ -1,0 +1,13 @@
+//! The world: one well-formed state with the rows that are folds of its log, and the edits that lead from one to the next.
+#![tactic(auto)]
+
+mod desk;
+mod edit;
+mod parts;
+mod place;
+mod start;
+mod world;
+
+pub use desk::{Batch, Desk, Held, HeldList, Reservation};
+pub use edit::{Edit, Edits, Move};
+pub use world::World;

@@ -1,0 +1,134 @@
+ghost use Rattle.std.specs.Prelude.{◌≡◌, ℕ, ◌+◌, ◌^◌, ◌<◌, ◌≤◌, length, OnOk};
+ghost use Rattle.std.specs.List.{AllByRecursion};
+ghost use Rattle.ax_log.specs.Puts.{CanPutAll, put_all};
+ghost use Rattle.ax_state.specs.Every.{count, one};
+ghost use Rattle.ax_world.specs.Whole.{rows_room};
+ghost use Rattle.ax_world.specs.Made.{made, made_all};
+ghost use Rattle.ax_world.specs.Fits.{CanMake, CanMakeAll, HasRoom, Leaves, is_cells, cells_put, puts_row};
+
+use crate::place::{Place, put_row, reserve_rows, set_rows};
+use crate::{Desk, Edit, Edits};
+use ax_log::{CellPuts, Log};
+use ax_sheet::{Processors, Sheet};
+use ax_values::{Names, NoMemory};
+use std::marker::Model;
+
+/// The parts of a world, with no tie between them.
+#[derive(Drop)]
+pub(crate) struct Parts {
+    pub(crate) sheet: Sheet,
+    pub(crate) processors: Processors,
+    pub(crate) actors: Names,
+    pub(crate) clock: u64,
+    pub(crate) fence: u64,
+    pub(crate) log: Log,
+    pub(crate) places: Vec<Place>,
+    pub(crate) desks: Vec<Desk>,
+}
+
+impl Model for Parts {
+    ghost use Rattle.std.specs.Prelude.{map};
+    ghost use Rattle.std.specs.Coded.{codes};
+    ghost use Rattle.ax_rules.specs.ExprCode.{coded_expr};
+    ghost use Rattle.ax_tokens.specs.TokenCode.{coded_token};
+    ghost use Rattle.ax_world.specs.Whole.{WorldView};
+
+    ghost Value = { WorldView };
+
+    ghost coded = { Prim.hlevel (codes, coded_expr, coded_token) };
+
+    ghost view = { λ w. record {
+      whole = record {
+        setting = record { sheet = w.sheet; processors = w.processors; actors = w.actors };
+        clock = w.clock;
+        fence = w.fence;
+        cells = w.log.cells;
+        places = map (λ x. x.place) w.places.items;
+        desks = w.desks.items;
+      };
+      room = record { cells = w.log.room; rows = map (λ x. x.room) w.places.items };
+    } };
+}
+
+impl Parts {
+    /// Makes one edit. It takes no memory.
+    fn make(&mut self, edit: Edit)
+        requires can { CanMake self.old.whole edit }
+        requires cells { cells_put edit ≤ self.old.room.cells }
+        requires rows { (q : ℕ) → one (puts_row q edit) ≤ rows_room self.old.room q }
+        ensures whole { self.new.whole ≡ made self.old.whole edit }
+        ensures room { Leaves self.old.room self.new.room edit }
+    {
+        match edit {
+            Edit::Clock(moment) => self.clock = moment,
+            Edit::Fence(fence) => self.fence = fence,
+            Edit::Cells(puts) => put_all(&mut self.log, puts),
+            Edit::SetRows { processor, rows } => set_rows(&mut self.places, processor, rows),
+            Edit::PutRow {
+                processor,
+                aggregate,
+                value,
+            } => put_row(&mut self.places, processor, aggregate, value),
+            Edit::SetDesk { actor, desk } => self.desks[actor as usize] = desk,
+        }
+    }
+}
+
+impl Parts {
+    /// Makes edits one after another. It takes no memory.
+    pub(crate) fn make_all(&mut self, edits: Edits)
+        requires can { CanMakeAll self.old.whole edits }
+        requires single { count is_cells edits ≤ 1 }
+        requires room { HasRoom self.old.room edits }
+        ensures { self.new.whole ≡ made_all edits self.old.whole }
+    {
+        for edit in edits.into_parts() {
+            self.make(edit);
+        }
+    }
+
+    /// Makes room for edits. What is kept stays, also where memory is wanting.
+    pub(crate) fn prepare(&mut self, edits: &[Edit]) -> Result<(), NoMemory>
+        requires can { CanMakeAll self.old.whole edits.now }
+        requires few { length self.old.whole.places < 2 ^ 32 }
+        ensures whole { self.new.whole ≡ self.old.whole }
+        ensures room { OnOk result (HasRoom self.new.room edits.now) }
+    {
+        reserve_cells(&mut self.log, edits)?;
+        reserve_rows(&mut self.places, edits)
+    }
+}
+
+/// Makes room for the cells of the edits. The log's cells stay, also where memory is wanting.
+fn reserve_cells(log: &mut Log, edits: &[Edit]) -> Result<(), NoMemory>
+    ensures cells { log.new.cells ≡ log.old.cells }
+    ensures room { OnOk result (AllByRecursion (λ e. cells_put e ≤ log.new.room) edits.now) }
+{
+    for edit in edits {
+        reserve_cells_of(log, edit)?;
+    }
+    Ok(())
+}
+
+fn reserve_cells_of(log: &mut Log, edit: &Edit) -> Result<(), NoMemory>
+    ensures cells { log.new.cells ≡ log.old.cells }
+    ensures room { OnOk result (cells_put edit.now ≤ log.new.room) }
+    ensures more { log.old.room ≤ log.new.room }
+{
+    match edit {
+        Edit::Cells(puts) => log.room(puts.parts()),
+        _ => Ok(()),
+    }
+}
+
+/// Puts the cells into the log, in order. It takes no memory.
+fn put_all(log: &mut Log, puts: CellPuts)
+    requires room { length puts ≤ log.old.room }
+    requires can { CanPutAll log.old.cells puts }
+    ensures cells { log.new.cells ≡ put_all puts log.old.cells }
+    ensures room { log.old.room ≤ log.new.room + length puts }
+{
+    for put in puts.into_parts() {
+        log.put(put);
+    }
+}

@@ -1,0 +1,67 @@
+ghost use Rattle.std.specs.Prelude.{◌≡◌, ◌+◌, ◌^◌, ◌<◌, ◌≤◌, ◌*◌, [], length, map, IsTrue, IfOk};
+ghost use Rattle.std.specs.List.{list_all};
+ghost use Rattle.ax_claims.specs.Rows.{starting};
+ghost use Rattle.ax_sheet.specs.Declarations.{most_processors, is_segment_count};
+ghost use Rattle.ax_state.specs.State.{empty_desk, first_shelves, row_count};
+ghost use Rattle.ax_world.specs.Whole.{bare};
+
+use crate::place::Place;
+use crate::{Desk, HeldList};
+use ax_claims::Rows;
+use ax_projections::Table;
+use ax_sheet::Processor;
+use ax_values::{Name, NoMemory};
+use std::alloc::Global;
+
+/// The first rows of each processor, with fences from 1 on by processor and id.
+pub(crate) fn first_places(alloc: Global, processors: &[Processor]) -> Result<Vec<Place>, NoMemory>
+    requires few { length processors.now ≤ most_processors }
+    requires counts { IsTrue (list_all (λ q. is_segment_count q.segments) processors.now) }
+    ensures { IfOk result (λ places. map (λ x. x.place) places.items ≡ map bare (first_shelves processors.now 1)) }
+{
+    let mut places = Vec::with_capacity(alloc, processors.len())?;
+    let mut fence = 1;
+    for processor in processors {
+        places.push(first_place(alloc, processor.segments, fence)?)?;
+        fence += processor.segments as u64;
+    }
+    Ok(places)
+}
+
+#[tactic(auto, using(crate::proofs::Segments::segment_counts))]
+fn first_place(alloc: Global, segments: u32, fence: u64) -> Result<Place, NoMemory>
+    requires count { IsTrue (is_segment_count segments) }
+    requires fences { fence < 2 ^ 60 }
+    ensures { IfOk result (λ x. x.place ≡ bare (record { rows = starting segments fence })) }
+{
+    Ok(Place {
+        rows: Rows::start(alloc, segments, fence)?,
+        table: Table::new(alloc),
+    })
+}
+
+/// How many segments there are at the start.
+pub(crate) fn row_count(processors: &[Processor]) -> u64
+    requires few { length processors.now ≤ most_processors }
+    ensures { result ≡ row_count processors.now }
+{
+    let mut count = 0;
+    for processor in processors {
+        count += processor.segments as u64;
+    }
+    count
+}
+
+pub(crate) fn empty_desks(alloc: Global, actors: &[Name]) -> Result<Vec<Desk>, NoMemory>
+    ensures { IfOk result (λ desks. desks.items ≡ map (λ actor. empty_desk) actors.now) }
+{
+    let mut desks = Vec::with_capacity(alloc, actors.len())?;
+    for _ in actors {
+        desks.push(Desk {
+            held: HeldList::new(alloc),
+            reservation: None,
+            batch: None,
+        })?;
+    }
+    Ok(desks)
+}
