@@ -53,6 +53,12 @@ pub(crate) fn is_kept(alloc: Global, old: &str, new: &str) -> Result<bool, Fail>
     Ok(is_sheet(alloc, text.as_bytes())? && is_written_as(alloc, text.as_str(), text.as_str())?)
 }
 
+/// Whether the small sheet with this piece in place of the old one is written with the wanted one.
+pub(crate) fn becomes(alloc: Global, old: &str, new: &str, wanted: &str) -> Result<bool, Fail> {
+    let text = changed(alloc, old, new)?;
+    Ok(is_written_as(alloc, text.as_str(), changed(alloc, old, wanted)?.as_str())?)
+}
+
 /// The place of the first piece with which the small sheet is read.
 pub(crate) fn first_read(alloc: Global, old: &str, pieces: &[&str]) -> Result<Option<usize>, Fail> {
     for (place, new) in pieces.iter().enumerate() {

@@ -1,4 +1,4 @@
-use crate::changes::{changed, is_written_as, text_of};
+use crate::changes::{becomes, is_written_as, text_of};
 use ax_sheet::{Sheet, SheetFault};
 use ax_values::{Duplicate, Line};
 use std::alloc::Global;
@@ -113,20 +113,14 @@ fn copies_of_sheets(rt: HostRuntime) -> Result<(), Fail> {
     Ok(())
 }
 
-/// Whether the small sheet with one piece for another is written with a third.
-fn leaves(alloc: Global, old: &str, new: &str, wanted: &str) -> Result<bool, Fail> {
-    let text = changed(alloc, old, new)?;
-    Ok(is_written_as(alloc, text.as_str(), changed(alloc, old, wanted)?.as_str())?)
-}
-
 #[test]
 fn members_that_are_empty_or_false_go(rt: HostRuntime) -> Result<(), Fail> {
     let alloc = rt.alloc();
     let rule = r#"{"sets":{"n":["+","n",1]}}"#;
-    assert!(rt; leaves(alloc, rule, r#"{"sets":{},"guards":[]}"#, "{}")?);
+    assert!(rt; becomes(alloc, rule, r#"{"sets":{},"guards":[]}"#, "{}")?);
     let announced = r#"{"announce":true}"#;
     assert!(rt;
-        leaves(
+        becomes(
             alloc,
             announced,
             r#"{"sets":{},"announce":false,"guards":[]}"#,
@@ -136,7 +130,7 @@ fn members_that_are_empty_or_false_go(rt: HostRuntime) -> Result<(), Fail> {
     let handler = r#"{"by":"@","send":[["make","$t",{"a":1,"t":"x"}]],"start":true}"#;
     let empty =
         r#"{"start":false,"guards":[],"sets":{},"associate":[],"dissociate":[],"send":[],"end":false,"by":"k"}"#;
-    assert!(rt; leaves(alloc, handler, empty, r#"{"by":"k"}"#)?);
+    assert!(rt; becomes(alloc, handler, empty, r#"{"by":"k"}"#)?);
     Ok(())
 }
 
@@ -156,10 +150,10 @@ fn members_stand_in_byte_order(rt: HostRuntime) -> Result<(), Fail> {
     let alloc = rt.alloc();
     let fields = r#"{"n":0,"b":1,"B":2,"a-":3,"a_":4,"a0":5,"a":6,"1":7}"#;
     let ordered = r#"{"1":7,"B":2,"a":6,"a-":3,"a0":5,"a_":4,"b":1,"n":0}"#;
-    assert!(rt; leaves(alloc, r#"{"n":0}"#, fields, ordered)?);
+    assert!(rt; becomes(alloc, r#"{"n":0}"#, fields, ordered)?);
     let params = r#"{"t":"text","a":"int"}"#;
     assert!(rt;
-        leaves(
+        becomes(
             alloc,
             r#"{"a":"int","t":"text"}"#,
             params,

@@ -1,6 +1,6 @@
 use crate::changes::{
-    PLAIN, changed, first_lost, first_read, is_kept, is_read, is_sheet, is_written_as, repeated,
-    replaced, with_byte, without,
+    PLAIN, becomes, changed, first_lost, first_read, is_kept, is_read, is_sheet, is_written_as,
+    repeated, with_byte, without,
 };
 use std::alloc::Global;
 use std::test::Fail;
@@ -133,12 +133,6 @@ fn names_of_64_bytes(rt: HostRuntime) -> Result<(), Fail> {
     assert!(rt; is_name_of_64(alloc, r#"{"p":"#, r#"{""#, r#"":"#)?);
     assert!(rt; is_name_of_64(alloc, r#"{"g":"#, r#"{""#, r#"":"#)?);
     Ok(())
-}
-
-/// Whether the small sheet with this piece in place of the old one is written with the wanted one.
-fn becomes(alloc: Global, old: &str, new: &str, wanted: &str) -> Result<bool, Fail> {
-    let text = changed(alloc, old, new)?;
-    Ok(is_written_as(alloc, text.as_str(), changed(alloc, old, wanted)?.as_str())?)
 }
 
 #[test]
