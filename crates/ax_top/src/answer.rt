@@ -10,8 +10,8 @@ use crate::plan::{Script, ScriptFault, ScriptKind};
 use crate::script::read_script;
 use crate::status::Status;
 use crate::text::write_entry;
-use ax_values::{NoMemory, write_number};
 use ax_first_world::World;
+use ax_values::{NoMemory, write_number};
 use std::alloc::Global;
 
 /// A status, and the text that goes with it.

@@ -1,5 +1,5 @@
-use ax_values::Name;
 use ax_first_world::Order;
+use ax_values::Name;
 
 /// What a script says: its actor, and the steps of its orders.
 #[derive(Drop)]

@@ -6,8 +6,8 @@ ghost use Rattle.ax_top.specs.declared.script.LineFault.TheVariants as line_faul
 ghost use Rattle.ax_top.specs.Reading.{orders_of, Reads, Gives};
 
 use crate::plan::{Script, ScriptFault, ScriptKind};
-use ax_values::{Name, NoMemory, read_int, read_number};
 use ax_first_world::{Command, Order};
+use ax_values::{Name, NoMemory, read_int, read_number};
 use std::alloc::Global;
 
 const MOST_STEPS: usize = 100000;

@@ -3,8 +3,8 @@ ghost use Rattle.std.specs.List.{flat_map};
 ghost use Rattle.std.specs.Fmt.{decimal};
 ghost use Rattle.ax_first_world.specs.Text.{command_text, order_text, reply_text, line_text, entry_text};
 
-use ax_values::{Line, Name, NoMemory, write_int, write_number};
 use ax_first_world::{Command, Move, Order, Reply};
+use ax_values::{Line, Name, NoMemory, write_int, write_number};
 use std::alloc::Global;
 
 fn command_text(command: Command) -> &'static [u8]
