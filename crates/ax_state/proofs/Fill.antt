@@ -305,6 +305,7 @@ standing-fills a i rs cells f ps b t all h = record {
     added = h.new.added;
     bound = h.new.bound;
     settled = All-map (λ j. IsTrue (is_settled cells j)) (λ j. IsTrue (is_settled later j)) (λ j. filled-settled (Own a) cells later j g) h.new.added h.new.settled;
+    within = h.new.within;
     new_is = h.new.new_is;
   };
   token = token-fills (Own a) cells later g b.segment.mask b.new h.token;

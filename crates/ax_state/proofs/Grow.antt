@@ -151,6 +151,7 @@ standing-grows cells later g ps b t h = record {
     added = h.new.added;
     bound = h.new.bound;
     settled = All-map (λ i. IsTrue (is_settled cells i)) (λ i. IsTrue (is_settled later i)) (λ i. grows-settled cells later i g) h.new.added h.new.settled;
+    within = h.new.within;
     new_is = h.new.new_is;
   };
   token = token-grows cells later g b.segment.mask b.new h.token;
