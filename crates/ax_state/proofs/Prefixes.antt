@@ -1,14 +1,12 @@
 -- Where the covered events of each aggregate are a prefix of its stream, positions and rows can be read off the covered events alone.
-use Rattle.std.proofs.Common.{◌≡◌, ℕ, zero, suc, Bool, true, false, not, IsTrue, List, [], ◌∷◌, ◌++◌, map, length, filter, flat_map, take, drop, find, Option, Some, None, Result, Ok, if◌then◌else◌, refl, sym, ap, ◌∙◌, subst}
+use Rattle.std.proofs.Common.{◌≡◌, ℕ, Bool, true, false, not, List, [], ◌∷◌, ◌++◌, map, length, filter, flat_map, take, drop, find, Some, if◌then◌else◌, refl, sym, ap, ◌∙◌}
 use Rattle.std.proofs.lemmas.Grind.{flat_map-append}
 use Rattle.std.proofs.lemmas.List.{take-append-drop}
 use Rattle.std.specs.List.{list_all}
 use Rattle.std.proofs.lemmas.Slice.Eq.{bytes_eq-Decides}
-use Rattle.ax_values.specs.Grammar.{Name, ItemName}
-use Rattle.ax_values.proofs.Options.{both}
+use Rattle.ax_values.specs.Grammar.{Name}
 use Rattle.ax_segments.specs.Segments.{hash_of, matches}
 use Rattle.ax_log.specs.Log.{Stored, events, is_of, stream_in}
-use Rattle.ax_rules.specs.Expr.{Row}
 use Rattle.ax_rules.specs.Rules.{Rules, fold_items}
 use Rattle.ax_upcast.specs.Upcast.{upcast}
 use Rattle.ax_projections.specs.Items.{Placed, placed, placed_items, items_of, plain_items}
@@ -126,9 +124,10 @@ pub items-prefix : (chain : List Upcaster) (es : List Stored) (ps : List Portion
 items-prefix chain es ps a h =
     let s : List Stored = stream_in a es in
     let n : ℕ = length (filter (covers_for ps a) s) in
-    let front : stream_in a (covered_events ps es) ≡ take n s = covered-stream ps a es ∙ passing-prefix (covers_for ps a) s (h a) in
-    (flat_map (placed_items chain) (drop n s),
-      ap (flat_map (placed_items chain)) (sym (take-append-drop n s)) ∙ flat_map-append (placed_items chain) (take n s) (drop n s) ∙ ap (λ es. flat_map (placed_items chain) es ++ flat_map (placed_items chain) (drop n s)) (sym front))
+    let front : stream_in a (covered_events ps es) ≡ take n s = covered-stream ps a es ∙ passing-prefix (covers_for ps a) s (h a) in (
+      flat_map (placed_items chain) (drop n s),
+      ap (flat_map (placed_items chain)) (sym (take-append-drop n s)) ∙ flat_map-append (placed_items chain) (take n s) (drop n s) ∙ ap (λ es. flat_map (placed_items chain) es ++ flat_map (placed_items chain) (drop n s)) (sym front),
+    )
 
 take-front : {A : Type 0} (xs ys : List A) → take (length xs) (xs ++ ys) ≡ xs
 take-front [] ys = refl
