@@ -75,7 +75,7 @@ quiet-all k (Cell.Reserved a s w t ∷ cs) h = quiet-all (suc k) cs h.1
 quiet-all k (Cell.Void ∷ cs) h = quiet-all (suc k) cs h.1
 quiet-all k (Cell.Event r ∷ cs) h = absurd h.0
 
-grows-events : (k : ℕ) (cells later : List Cell) → Grows cells later → events_from k later ≡ events_from k cells
+pub grows-events : (k : ℕ) (cells later : List Cell) → Grows cells later → events_from k later ≡ events_from k cells
 grows-events k [] later g = quiet-all k later g
 grows-events k (c ∷ cs) [] g = absurd g
 grows-events k (c ∷ cs) (d ∷ ds) g = step-events k c d cs ds g.0 (grows-events (suc k) cs ds g.1)
