@@ -5,3 +5,4 @@ pub mod Positions
 pub mod Portions
 pub mod WellFormed
 pub mod Answer
+pub mod Holding

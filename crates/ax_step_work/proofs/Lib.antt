@@ -1,0 +1,5 @@
+pub mod Advancing
+pub mod Covering
+pub mod FetchKept
+pub mod Folding
+pub mod CommitKept

@@ -1,0 +1,137 @@
+-- Steps on batches: fetch and commit.
+use Rattle.std.specs.Prelude.{ℕ, zero, suc, ◌==◌, Bool, not, ◌&&◌, List, [], ◌∷◌, ◌++◌, length, filter, flat_map, Option, Some, None, Result, Ok, Err, nat_lt, nat_le, if◌then◌else◌}
+use Rattle.ax_values.specs.Grammar.{Name, ItemName}
+use Rattle.ax_values.specs.Words.{same_name}
+use Rattle.ax_log.specs.Log.{Stored, events}
+use Rattle.ax_rules.specs.Expr.{Row}
+use Rattle.ax_rules.specs.Rules.{Rules, fold_from, start_row, row_or}
+use Rattle.ax_rules.specs.Why.{why_text}
+use Rattle.ax_segments.specs.Segments.{Segment, hash_of, matches}
+use Rattle.ax_tokens.specs.Tokens.{Token, covers, advanced, collapsed, gaps_fit}
+use Rattle.ax_projections.specs.Items.{Placed, placed_items, plain_items}
+use Rattle.ax_claims.specs.Rows.{TokenRow, row_at, put_row}
+use Rattle.ax_state.specs.Setting.{processor_number, projection_at}
+use Rattle.ax_state.specs.State.{State, Batch, desk_at, shelf_at, with_desk, with_rows}
+use Rattle.ax_state.specs.Positions.{row_of}
+use Rattle.ax_state.specs.Holding.{on_held_row}
+use Rattle.ax_state.specs.Answer.{Answer, answer}
+use Rattle.ax_values.specs.declared.cell.Cell.{Cell}
+use Rattle.ax_rules.specs.declared.cause.Cause.{Cause}
+use Rattle.ax_rules.specs.declared.why.Why.{Why}
+use Rattle.ax_upcast.specs.declared.upcaster.Upcaster.{Upcaster}
+use Rattle.ax_journal.specs.declared.order.Order.{Order}
+use Rattle.ax_journal.specs.declared.reply.Reply.{Reply}
+
+abbrev pub with_batch : ℕ → Option Batch → State → State
+with_batch actor b m = with_desk actor (record (desk_at m actor) { batch = b }) m
+
+-- ---- the fetch bound
+
+-- whether the event is of the segment and not covered for its aggregate's hash
+abbrev pub is_new : Segment → Token → Stored → Bool
+is_new s t e = matches s (hash_of e.record_of.aggregate) && not (covers t s.mask (hash_of e.record_of.aggregate) e.index)
+
+-- those of the events below b
+abbrev pub new_below : Segment → Token → List Stored → ℕ → List Stored
+new_below s t es b = filter (λ e. is_new s t e && nat_lt e.index b) es
+
+-- at most so many of them, and few gaps afterwards
+abbrev pub is_fetchable : Segment → Token → List Cell → ℕ → ℕ → Bool
+is_fetchable s t cells most b = nat_le (length (new_below s t (events cells) b)) most && gaps_fit (advanced cells b t)
+
+-- the largest number at most n that passes the test, or 0
+abbrev pub largest : (ℕ → Bool) → ℕ → ℕ
+largest test zero = 0
+largest test (suc n) = if test (suc n) then suc n else largest test n
+
+abbrev pub fetch_bound : Segment → Token → List Cell → ℕ → ℕ
+fetch_bound s t cells most = largest (is_fetchable s t cells most) (length cells)
+
+abbrev pub fetched_token : Segment → Token → List Cell → ℕ → Token
+fetched_token s t cells most = collapsed (advanced cells (fetch_bound s t cells most) t)
+
+-- ---- fetch
+
+-- the event is of the segment, the new token covers it, and the old one does not
+abbrev pub is_fetched : Segment → Token → Token → Stored → Bool
+is_fetched s old new e =
+    matches s (hash_of e.record_of.aggregate)
+    && (covers new s.mask (hash_of e.record_of.aggregate) e.index && not (covers old s.mask (hash_of e.record_of.aggregate) e.index))
+
+abbrev pub fetched_events : Batch → List Stored → List Stored
+fetched_events b es = filter (is_fetched b.segment b.old b.new) es
+
+abbrev pub batch_of : State → ℕ → Segment → ℕ → TokenRow → Batch
+batch_of m p s most r = record { processor = p; segment = s; fence = r.fence; old = r.token; new = fetched_token s r.token m.cells most }
+
+abbrev pub fetched : State → ℕ → Batch → Answer
+fetched m actor b = answer (with_batch actor (Some b) m) (Reply.Fetched (length (fetched_events b (events m.cells))))
+
+abbrev pub fetch_at : State → ℕ → ℕ → Segment → ℕ → Answer
+fetch_at m actor p s most = on_held_row m actor p s (λ r. fetched m actor (batch_of m p s most r))
+
+abbrev pub fetch : State → ℕ → Name → Segment → ℕ → Answer
+fetch m actor name s most = fetch_at m actor (processor_number m.setting.processors name) s most
+
+-- ---- what a batch makes of rows
+
+-- the items of a batch, by index, then part
+abbrev pub batch_items : List Upcaster → Batch → List Stored → List Placed
+batch_items chain b es = flat_map (placed_items chain) (fetched_events b es)
+
+abbrev pub is_item_of : Name → Placed → Bool
+is_item_of a x = same_name x.item.name.aggregate a
+
+-- the items of an aggregate
+abbrev pub share_of : Name → List Placed → List Placed
+share_of a xs = filter (is_item_of a) xs
+
+-- the row of an aggregate, which a well-formed state defines
+abbrev pub present_row : State → ℕ → Name → Row
+present_row m p a = row_or (start_row (projection_at m.setting p).fields) (row_of m p a)
+
+-- the row of an aggregate behind its items, or the first cause
+abbrev pub row_behind : Rules → (Name → Row) → List Placed → Name → Result Row Cause
+row_behind rules row xs a = fold_from rules (plain_items (share_of a xs)) (row a)
+
+pub record Failure : Type 0 where
+  pub item : ItemName
+  pub cause : Cause
+
+abbrev pub failure_or : ItemName → Option Failure → Result Row Cause → Option Failure
+failure_or x later (Ok row) = later
+failure_or x later (Err c) = Some (record { item = x; cause = c })
+
+-- the first of the items xs behind the items `before` that does not apply to what its aggregate's items so far make of the row
+abbrev pub first_failure : Rules → (Name → Row) → List Placed → List Placed → Option Failure
+first_failure rules row before [] = None
+first_failure rules row before (x ∷ xs) =
+    failure_or x.item.name (first_failure rules row (before ++ x ∷ []) xs) (row_behind rules row (before ++ x ∷ []) x.item.name.aggregate)
+
+-- ---- commit
+
+-- the row gets the batch's new token, and the batch is done
+abbrev pub installed : State → ℕ → Batch → TokenRow → State
+installed m actor b r = with_batch actor None (with_rows b.processor (put_row (record r { token = b.new; since = m.clock }) (shelf_at m b.processor).rows) m)
+
+abbrev pub committed : State → ℕ → Batch → TokenRow → Option Failure → Answer
+committed m actor b r (Some f) = answer m (Reply.NotApplied f.item (why_text (Why.Failed f.cause)))
+committed m actor b r None = answer (installed m actor b r) (Reply.Committed (length (batch_items m.setting.sheet.chain b (events m.cells))) 0 0)
+
+abbrev pub commit_over : State → ℕ → Batch → Option TokenRow → Answer
+commit_over m actor b None = answer (with_batch actor None m) (Reply.Stale b.fence None)
+commit_over m actor b (Some r) =
+    if r.fence == b.fence then committed m actor b r (first_failure (projection_at m.setting b.processor) (present_row m b.processor) [] (batch_items m.setting.sheet.chain b (events m.cells)))
+    else answer (with_batch actor None m) (Reply.Stale b.fence (Some r.fence))
+
+abbrev pub commit_batch : State → ℕ → Option Batch → Answer
+commit_batch m actor None = answer m Reply.NoBatch
+commit_batch m actor (Some b) = commit_over m actor b (row_at b.segment (shelf_at m b.processor).rows)
+
+abbrev pub commit : State → ℕ → Answer
+commit m actor = commit_batch m actor (desk_at m actor).batch
+
+abbrev pub step : State → ℕ → Order → Answer
+step m actor (Order.Fetch name s most) = fetch m actor name s most
+step m actor Order.Commit = commit m actor
+step m actor o = answer m Reply.Done

@@ -1,0 +1,2 @@
+//! Steps on batches: a fetch takes what a segment has not covered, and a commit folds it into the rows.
+#![tactic(auto)]
