@@ -425,7 +425,7 @@ module _ (m : State) (actor : ℕ) (b : Batch) (shelf : Shelf) (r : TokenRow) (a
         fences = record {
           distinct = λ f pos. (let e : fence_count f shelves ≡ fence_count f m.shelves = fences-same f m.shelves b.processor at in let k : fence_count f m.shelves ≤ 1 = h.fences.distinct f pos in omega arith);
           within = (let old : AllByRecursion (λ x. (0 < x.fence) × (x.fence ≤ m.fence)) shelf.rows = All-get (IsFencedShelf m.fence) m.shelves b.processor shelf h.fences.within at in
-          All-set (IsFencedShelf m.fence) m.shelves b.processor after h.fences.within (all-rows (λ x. (0 < x.fence) × (x.fence ≤ m.fence)) old (All-get (λ x. (0 < x.fence) × (x.fence ≤ m.fence)) shelf.rows place.0 r old place.1)));
+              All-set (IsFencedShelf m.fence) m.shelves b.processor after h.fences.within (all-rows (λ x. (0 < x.fence) × (x.fence ≤ m.fence)) old (All-get (λ x. (0 < x.fence) × (x.fence ≤ m.fence)) shelf.rows place.0 r old place.1)));
         };
         desks = AllFrom-set (λ k d. IsSeat m.fence shelves (name_at m.setting.actors k) d) 0 m.desks actor desk
             (AllFrom-map (λ k d. IsSeat m.fence m.shelves (name_at m.setting.actors k) d) (λ k d. IsSeat m.fence shelves (name_at m.setting.actors k) d) (λ k d. seat-after (name_at m.setting.actors k) d) 0 m.desks h.desks)

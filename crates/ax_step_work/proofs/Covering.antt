@@ -44,7 +44,7 @@ rows-once : (k : ℕ) (rows : List TokenRow) → length (filter (λ r. matches r
 rows-once k [] = refl
 rows-once k (r ∷ rows) =
     elim (matches r.segment k) as (λ b. length (if b then r ∷ filter (λ r. matches r.segment k) rows else filter (λ r. matches r.segment k) rows)
-        ≡ length (if b then portion_of r ∷ filter (λ x. matches x.segment k) (portions rows) else filter (λ x. matches x.segment k) (portions rows)))
+    ≡ length (if b then portion_of r ∷ filter (λ x. matches x.segment k) (portions rows) else filter (λ x. matches x.segment k) (portions rows)))
     [ true ↦ ap suc (rows-once k rows) | false ↦ rows-once k rows ]
 
 -- the rows of portions
@@ -156,9 +156,10 @@ settled-from : (k : ℕ) (cells all : List Cell) → ((j : ℕ) → slice_get al
 settled-from k [] all h = tt
 settled-from k (Cell.Reserved a s w t ∷ cells) all h = settled-from (suc k) cells all (λ j. let e : suc k + j ≡ k + suc j = omega arith in ap (slice_get all) e ∙ h (suc j))
 settled-from k (Cell.Void ∷ cells) all h = settled-from (suc k) cells all (λ j. let e : suc k + j ≡ k + suc j = omega arith in ap (slice_get all) e ∙ h (suc j))
-settled-from k (Cell.Event r ∷ cells) all h =
-    ((let e : k ≡ k + 0 = omega arith in ap (option_is (λ c. not (is_reserved c))) (ap (slice_get all) e ∙ h 0)),
-    settled-from (suc k) cells all (λ j. let e : suc k + j ≡ k + suc j = omega arith in ap (slice_get all) e ∙ h (suc j)))
+settled-from k (Cell.Event r ∷ cells) all h = (
+  (let e : k ≡ k + 0 = omega arith in ap (option_is (λ c. not (is_reserved c))) (ap (slice_get all) e ∙ h 0)),
+  settled-from (suc k) cells all (λ j. let e : suc k + j ≡ k + suc j = omega arith in ap (slice_get all) e ∙ h (suc j)),
+)
 
 all-filter : {A : Type 0} (P : A → Type 0) (t : A → Bool) (xs : List A) → AllByRecursion P xs → AllByRecursion P (filter t xs)
 all-filter P t [] h = tt

@@ -176,21 +176,23 @@ module _ (m : State) (actor p : ℕ) (s : Segment) (most : ℕ) (shelf : Shelf) 
 
   rows-standing : (rows : List TokenRow) (k : ℕ) → ((j : ℕ) → slice_get shelf.rows (k + j) ≡ slice_get rows j) → AllByRecursion (IsBatchRow m.cells (portions shelf.rows) b) rows
   rows-standing [] k f = tt
-  rows-standing (q ∷ rows) k f =
-      ((λ seg fence. (let here : slice_get shelf.rows k ≡ Some q = (let z : k ≡ k + 0 = omega arith in ap (slice_get shelf.rows) z ∙ f 0) in
-      let same : k ≡ place.0 = one-place shelf.rows k place.0 q r (rows-of shelf.rows was.parts).order here place.1 (seg ∙ sym place.2) in
-      let both : Some q ≡ Some r = sym here ∙ ap (slice_get shelf.rows) same ∙ place.1 in
-      let is : q ≡ r = cc in subst (λ (x : TokenRow). IsStanding m.cells (portions shelf.rows) b x.token) (sym is) standing)),
-      rows-standing rows (suc k) (λ j. let z : suc k + j ≡ k + suc j = omega arith in ap (slice_get shelf.rows) z ∙ f (suc j)))
+  rows-standing (q ∷ rows) k f = (
+    (λ seg fence. (let here : slice_get shelf.rows k ≡ Some q = (let z : k ≡ k + 0 = omega arith in ap (slice_get shelf.rows) z ∙ f 0) in
+        let same : k ≡ place.0 = one-place shelf.rows k place.0 q r (rows-of shelf.rows was.parts).order here place.1 (seg ∙ sym place.2) in
+        let both : Some q ≡ Some r = sym here ∙ ap (slice_get shelf.rows) same ∙ place.1 in
+        let is : q ≡ r = cc in subst (λ (x : TokenRow). IsStanding m.cells (portions shelf.rows) b x.token) (sym is) standing)),
+    rows-standing rows (suc k) (λ j. let z : suc k + j ≡ k + suc j = omega arith in ap (slice_get shelf.rows) z ∙ f (suc j)),
+  )
 
   shelves-standing : (xs : List Shelf) (k : ℕ) → ((j : ℕ) → slice_get m.shelves (k + j) ≡ slice_get xs j) → AllFrom (IsBatchAt m.cells b) k xs
   shelves-standing [] k f = tt
-  shelves-standing (x ∷ xs) k f =
-      ((λ e. (let here : slice_get m.shelves k ≡ Some x = (let z : k ≡ k + 0 = omega arith in ap (slice_get m.shelves) z ∙ f 0) in
-      let both : Some x ≡ Some shelf = sym here ∙ ap (slice_get m.shelves) e ∙ at in
-      let is : shelf ≡ x = cc in
-      subst (λ (y : Shelf). AllByRecursion (IsBatchRow m.cells (portions y.rows) b) y.rows) is (rows-standing shelf.rows 0 (λ j. let z : 0 + j ≡ j = omega arith in ap (slice_get shelf.rows) z)))),
-      shelves-standing xs (suc k) (λ j. let z : suc k + j ≡ k + suc j = omega arith in ap (slice_get m.shelves) z ∙ f (suc j)))
+  shelves-standing (x ∷ xs) k f = (
+    (λ e. (let here : slice_get m.shelves k ≡ Some x = (let z : k ≡ k + 0 = omega arith in ap (slice_get m.shelves) z ∙ f 0) in
+        let both : Some x ≡ Some shelf = sym here ∙ ap (slice_get m.shelves) e ∙ at in
+        let is : shelf ≡ x = cc in
+        subst (λ (y : Shelf). AllByRecursion (IsBatchRow m.cells (portions y.rows) b) y.rows) is (rows-standing shelf.rows 0 (λ j. let z : 0 + j ≡ j = omega arith in ap (slice_get shelf.rows) z)))),
+    shelves-standing xs (suc k) (λ j. let z : suc k + j ≡ k + suc j = omega arith in ap (slice_get m.shelves) z ∙ f (suc j)),
+  )
 
   -- the desk with the batch
   abbrev desk : Desk
