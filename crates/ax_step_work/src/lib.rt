@@ -1,2 +1,8 @@
 //! Steps on batches: a fetch takes what a segment has not covered, and a commit folds it into the rows.
 #![tactic(auto)]
+
+mod bound;
+mod fetching;
+mod held;
+
+pub use fetching::fetch;
