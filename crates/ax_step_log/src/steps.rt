@@ -5,7 +5,7 @@ ghost use Rattle.ax_step_log.specs.Logging.{IsLogged, step};
 
 use crate::appending::append;
 use crate::sending::send;
-use ax_journal::{Order, Reply};
+use ax_journal::Order;
 use ax_values::NoMemory;
 use ax_world::{Move, World};
 use std::alloc::Global;
