@@ -1,40 +1,39 @@
 -- A commit keeps what holds of every state.
-use Rattle.std.proofs.Common.{◌≡◌, ℕ, zero, suc, ◌+◌, ◌<◌, ◌≤◌, ◌==◌, ◌^◌, ◌&&◌, ◌||◌, Bool, true, false, not, IsTrue, List, [], ◌∷◌, ◌++◌, map, filter, flat_map, length, Option, Some, None, Result, Ok, Err, slice_get, slice_set, if◌then◌else◌, refl, sym, ap, ◌∙◌, subst, arith, nat_lt}
+use Rattle.std.proofs.Common.{◌≡◌, ℕ, zero, suc, ◌+◌, ◌<◌, ◌≤◌, ◌==◌, ◌&&◌, ◌||◌, Bool, true, false, not, IsTrue, List, [], ◌∷◌, ◌++◌, map, filter, flat_map, length, Option, Some, None, Result, Ok, Err, slice_get, slice_set, if◌then◌else◌, refl, sym, ap, ◌∙◌, subst, arith}
 use Rattle.std.specs.Prelude.{IfSome, IsOk}
 use Rattle.std.specs.List.{AllByRecursion, list_any}
 use Rattle.std.proofs.lemmas.Bool.Decides.{nat_tests}
 use Rattle.std.proofs.lemmas.Grind.{flat_map-append}
 use Rattle.std.proofs.lemmas.List.{length-set, map-append}
 use Rattle.std.proofs.lemmas.Slice.Eq.{bytes_eq-Decides}
-use Rattle.ax_values.specs.Grammar.{Name, ItemName}
+use Rattle.ax_values.specs.Grammar.{Name}
 use Rattle.ax_values.specs.Words.{same_name}
 use Rattle.ax_values.proofs.Options.{both}
-use Rattle.ax_log.specs.Log.{Stored, events, stream_in, is_of, option_is}
+use Rattle.ax_log.specs.Log.{Stored, events, stream_in, option_is}
 use Rattle.ax_rules.specs.Expr.{Row}
 use Rattle.ax_rules.specs.Rules.{Rules, and_then, fold_from, fold_items, start_row, row_or}
 use Rattle.ax_segments.specs.Segments.{Segment, hash_of, matches}
-use Rattle.ax_tokens.specs.Tokens.{Token, covers}
+use Rattle.ax_tokens.specs.Tokens.{covers}
 use Rattle.ax_projections.specs.Items.{Placed, placed_items, plain_items}
 use Rattle.ax_projections.proofs.RebuildLaws.{items-own}
-use Rattle.ax_claims.specs.Rows.{TokenRow, AreRows, row_at, put_row}
+use Rattle.ax_claims.specs.Rows.{TokenRow, row_at, put_row}
 use Rattle.ax_claims.proofs.Places.{put-here, rows-kept, get-within}
 use Rattle.ax_sheet.specs.Declarations.{names_differ}
-use Rattle.ax_state.specs.Every.{AllFrom, count, one, option_or}
-use Rattle.ax_state.specs.Setting.{Setting, name_at, is_projection, is_saga, projection_at}
+use Rattle.ax_state.specs.Every.{count, option_or}
+use Rattle.ax_state.specs.Setting.{name_at, projection_at}
 use Rattle.ax_state.specs.State.{State, Shelf, Desk, Batch, desk_at, shelf_at, empty_desk, empty_shelf, actor_name}
-use Rattle.ax_state.specs.Positions.{first_letter, drops_of, row_of, row_in}
+use Rattle.ax_state.specs.Positions.{first_letter, drops_of, row_in}
 use Rattle.ax_state.specs.Answer.{Answer, answer}
 use Rattle.ax_state.specs.Portions.{Portion, portion_of, portions, put_portion, covered_by, covered_events, items_in, row_by}
-use Rattle.ax_state.specs.WellFormed.{IsWellFormed, IsSeat, IsPlace, IsFolded, IsTokenOver, AreParts, AreTokens, CoverPrefix, IsStanding, IsBatchRow, IsBatchAt, IsBatchIn, IsShelfBy, IsOwnedRight, IsFencedShelf, OwnsRow, OwnsAs, HoldsCells, HasRows, holds_cell, fence_count, is_gapless, is_prefix_test}
+use Rattle.ax_state.specs.WellFormed.{IsWellFormed, IsSeat, IsPlace, IsTokenOver, AreParts, AreTokens, CoverPrefix, IsStanding, IsBatchRow, IsBatchAt, IsBatchIn, IsShelfBy, IsOwnedRight, IsFencedShelf, OwnsRow, OwnsAs, HoldsCells, HasRows, holds_cell, fence_count, is_prefix_test}
 use Rattle.ax_state.proofs.Lists.{All-map, All-set, All-at, All-get, AllFrom-map, AllFrom-set, AllFrom-at, AllFrom-get, AllFrom-others, AllFrom-of, AllFrom-zip, AllFrom-each, count-set_same, IfSome-map}
 use Rattle.ax_state.proofs.Puts.{found-row}
 use Rattle.ax_state.proofs.Starting.{parts-of}
 use Rattle.ax_state.proofs.Prefixes.{covered-stream, same-row}
-use Rattle.ax_step_work.specs.Working.{Failure, is_fetched, fetched_events, batch_items, share_of, row_behind, present_row, first_failure, installed, committed, commit_over, commit_batch, commit, with_batch}
+use Rattle.ax_step_work.specs.Working.{Failure, fetched_events, batch_items, share_of, row_behind, present_row, first_failure, installed, committed, commit_over, commit_batch, commit, with_batch}
 use Rattle.ax_step_work.proofs.Advancing.{advanced-keeps}
-use Rattle.ax_step_work.proofs.Covering.{IsChanged, changed, covered-here, one-place, rows-of, hash-small, same-tests}
+use Rattle.ax_step_work.proofs.Covering.{IsChanged, changed, covered-here, rows-of, hash-small, same-tests}
 use Rattle.ax_step_work.proofs.Folding.{covered-split, stream-filter, row-now, fold-append, no-failure}
-use Rattle.ax_values.specs.declared.cell.Cell.{Cell}
 use Rattle.ax_sheet.specs.declared.parts.Processor.{Processor}
 use Rattle.ax_rules.specs.declared.cause.Cause.{Cause}
 use Rattle.ax_journal.specs.declared.reply.Reply.{Reply}

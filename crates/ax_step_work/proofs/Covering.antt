@@ -1,21 +1,19 @@
 -- What portions cover after one of them changes, and prefixes of streams.
-use Rattle.std.proofs.Common.{◌≡◌, ℕ, zero, suc, ◌+◌, ◌-◌, ◌*◌, ◌<◌, ◌≤◌, ◌==◌, ◌^◌, ◌%◌, ◌&&◌, ◌||◌, Bool, true, false, not, IsTrue, List, [], ◌∷◌, map, find, length, filter, Option, Some, None, slice_get, slice_set, if◌then◌else◌, refl, sym, ap, ◌∙◌, subst, arith, nat_lt}
+use Rattle.std.proofs.Common.{◌≡◌, ℕ, zero, suc, ◌+◌, ◌*◌, ◌<◌, ◌≤◌, ◌^◌, ◌%◌, ◌&&◌, ◌||◌, Bool, true, false, not, IsTrue, List, [], ◌∷◌, map, find, length, filter, Some, slice_get, slice_set, if◌then◌else◌, refl, sym, ap, ◌∙◌, subst, arith, nat_lt}
 use Rattle.std.specs.List.{AllByRecursion, list_all, fold}
-use Rattle.std.specs.declared.cmp.Ordering.{Ordering}
 use Rattle.std.specs.declared.cmp.Ordering.TheVariants.{Less, Equal, Greater}
 use Rattle.std.specs.Ordering.{match_ordering}
 use Rattle.std.proofs.lemmas.Bool.Decides.{nat_tests}
 use Rattle.ax_values.specs.Grammar.{Name}
-use Rattle.ax_values.specs.Words.{put_rising, rises}
+use Rattle.ax_values.specs.Words.{rises}
 use Rattle.ax_values.proofs.Options.{both}
 use Rattle.ax_log.specs.Log.{Stored, events_from, events, stream_in, is_of, is_reserved, is_settled, option_is}
-use Rattle.ax_segments.specs.Segments.{Segment, hash_of, matches, segment_cmp}
+use Rattle.ax_segments.specs.Segments.{hash_of, matches}
 use Rattle.ax_tokens.specs.Tokens.{covers}
-use Rattle.ax_claims.specs.Rows.{TokenRow, AreRows, row_at, put_row, row_cmp, row_below}
+use Rattle.ax_claims.specs.Rows.{TokenRow, AreRows, put_row, row_cmp, row_below}
 use Rattle.ax_claims.proofs.Places.{put-here, rises-above}
-use Rattle.ax_state.specs.Portions.{Portion, portion_of, portions, portion_cmp, put_portion, portion_covers, covered_by}
+use Rattle.ax_state.specs.Portions.{Portion, portion_of, portions, put_portion, portion_covers, covered_by}
 use Rattle.ax_state.specs.WellFormed.{AreParts, is_prefix_test}
-use Rattle.ax_state.proofs.Puts.{found-row}
 use Rattle.ax_values.specs.declared.cell.Cell.{Cell}
 
 -- ---- hashes have 32 bits

@@ -1,5 +1,5 @@
 -- A fetch keeps what holds of every state.
-use Rattle.std.proofs.Common.{◌≡◌, ℕ, zero, suc, ◌+◌, ◌<◌, ◌≤◌, ◌==◌, ◌^◌, ◌&&◌, ◌||◌, Bool, true, false, IsTrue, List, [], ◌∷◌, map, find, length, Option, Some, None, slice_get, slice_set, if◌then◌else◌, refl, sym, ap, ◌∙◌, subst, arith, nat_lt, nat_le, max}
+use Rattle.std.proofs.Common.{◌≡◌, ℕ, zero, suc, ◌+◌, ◌≤◌, ◌==◌, ◌&&◌, ◌||◌, Bool, true, false, IsTrue, List, [], ◌∷◌, map, find, length, Option, Some, None, slice_get, slice_set, if◌then◌else◌, refl, sym, ap, ◌∙◌, subst, arith, nat_lt, nat_le}
 use Rattle.std.specs.Prelude.{IfSome, option_map}
 use Rattle.std.specs.List.{AllByRecursion}
 use Rattle.std.proofs.lemmas.Bool.Decides.{nat_tests}
@@ -9,22 +9,20 @@ use Rattle.ax_values.proofs.Options.{both}
 use Rattle.ax_log.specs.Log.{Stored, events, stream_in, is_settled}
 use Rattle.ax_segments.specs.Segments.{Segment, hash_of, matches, same_segment}
 use Rattle.ax_tokens.specs.Plain.{settles}
-use Rattle.ax_tokens.specs.Tokens.{Token, advanced, collapsed, covers, gaps_fit}
+use Rattle.ax_tokens.specs.Tokens.{advanced, covers, gaps_fit}
 use Rattle.ax_tokens.proofs.Changes.{covers-advanced, covers-collapsed}
 use Rattle.ax_claims.specs.Rows.{TokenRow, row_at, put_row}
-use Rattle.ax_state.specs.Every.{AllFrom, count, one, option_or}
-use Rattle.ax_state.specs.Setting.{Setting, name_at, is_projection, processor_number}
-use Rattle.ax_state.specs.State.{State, Shelf, Held, Desk, Batch, desk_at, shelf_at, empty_desk, empty_shelf, actor_name}
-use Rattle.ax_state.specs.Holding.{is_held_at, held_fence, held_check, checked, on_held_row}
-use Rattle.ax_state.specs.Portions.{Portion, portion_of, portions, put_portion, covered_by}
-use Rattle.ax_state.specs.Answer.{Answer, answer}
-use Rattle.ax_state.specs.WellFormed.{IsWellFormed, IsSeat, IsPlace, IsTokenOver, AreParts, AreTokens, CoverPrefix, IsStanding, IsBatchRow, IsBatchAt, IsBatchIn, OwnsAs, HoldsCells, holds_cell, is_prefix_test}
-use Rattle.ax_state.proofs.Lists.{All-map, All-set, All-at, All-get, AllFrom-map, AllFrom-set, AllFrom-at, AllFrom-get, count-set_same}
+use Rattle.ax_state.specs.Every.{AllFrom, count, option_or}
+use Rattle.ax_state.specs.Setting.{name_at, is_projection}
+use Rattle.ax_state.specs.State.{State, Shelf, Held, Desk, Batch, desk_at, shelf_at, empty_desk, empty_shelf}
+use Rattle.ax_state.specs.Holding.{is_held_at, held_fence, held_check, checked}
+use Rattle.ax_state.specs.Portions.{Portion, portions, put_portion, covered_by}
+use Rattle.ax_state.specs.WellFormed.{IsWellFormed, IsSeat, IsPlace, IsTokenOver, AreTokens, CoverPrefix, IsStanding, IsBatchRow, IsBatchAt, IsBatchIn, OwnsAs, HoldsCells, holds_cell, is_prefix_test}
+use Rattle.ax_state.proofs.Lists.{All-map, All-set, AllFrom-set, AllFrom-at, AllFrom-get, count-set_same}
 use Rattle.ax_state.proofs.Puts.{found-row}
-use Rattle.ax_step_work.specs.Working.{is_new, new_below, is_fetchable, largest, fetch_bound, fetched_token, batch_of, fetched, fetch_at, fetch, with_batch}
+use Rattle.ax_step_work.specs.Working.{is_new, new_below, is_fetchable, largest, fetch_bound, batch_of, fetched, fetch_at}
 use Rattle.ax_step_work.proofs.Advancing.{token-advanced, advance-adds, advanced-none}
 use Rattle.ax_step_work.proofs.Covering.{IsChanged, changed, covered-here, one-place, rows-of, hash-small, rising-stream, settled-stream, prefix-grows, same-tests}
-use Rattle.ax_values.specs.declared.cell.Cell.{Cell}
 use Rattle.ax_journal.specs.declared.reply.Reply.{Reply}
 
 -- ---- the bound

@@ -1,19 +1,17 @@
 -- Folds of covered items, and what the items of a batch add to them.
-use Rattle.std.proofs.Common.{◌≡◌, ℕ, zero, suc, ◌==◌, ◌&&◌, Bool, true, false, not, IsTrue, List, [], ◌∷◌, ◌++◌, map, length, filter, flat_map, take, Option, Some, None, Result, Ok, Err, if◌then◌else◌, append_assoc, refl, sym, ap, ◌∙◌, subst, arith}
+use Rattle.std.proofs.Common.{◌≡◌, ℕ, ◌&&◌, Bool, true, false, not, List, [], ◌∷◌, ◌++◌, map, length, filter, take, Option, None, Result, Ok, Err, if◌then◌else◌, append_assoc, refl, sym, ap, ◌∙◌, subst, arith}
 use Rattle.std.specs.Prelude.{IsOk}
 use Rattle.std.specs.List.{AllByRecursion, list_all}
-use Rattle.std.proofs.lemmas.List.{take_all, append-nil, map-append}
+use Rattle.std.proofs.lemmas.List.{take_all, append-nil}
 use Rattle.std.proofs.lemmas.Slice.Eq.{bytes_eq-Decides}
 use Rattle.ax_values.specs.Grammar.{Name}
-use Rattle.ax_values.specs.Words.{same_name}
 use Rattle.ax_values.proofs.Options.{both}
 use Rattle.ax_log.specs.Log.{Stored, is_of, stream_in}
 use Rattle.ax_rules.specs.Expr.{Row}
 use Rattle.ax_rules.specs.Rules.{Rules, and_then, applied, fold_from, fold_items}
-use Rattle.ax_segments.specs.Segments.{hash_of}
-use Rattle.ax_projections.specs.Items.{Placed, placed_items, plain_items}
+use Rattle.ax_projections.specs.Items.{Placed, plain_items}
 use Rattle.ax_state.specs.Positions.{undropped}
-use Rattle.ax_state.specs.Portions.{Portion, covered_by, covered_events, items_in, position_by, row_by}
+use Rattle.ax_state.specs.Portions.{items_in, row_by}
 use Rattle.ax_state.specs.WellFormed.{is_prefix_test}
 use Rattle.ax_step_work.specs.Working.{Failure, failure_or, first_failure, row_behind, share_of, is_item_of}
 use Rattle.ax_values.specs.declared.item.Item.{Item}

@@ -3,3 +3,5 @@ pub mod Covering
 pub mod FetchKept
 pub mod Folding
 pub mod CommitKept
+pub mod Bounds
+pub mod Fetches

@@ -32,8 +32,7 @@ pub(crate) fn is_fetched(
     ensures { result ≡ is_fetched segment (token_of old.now) (token_of new.now) (record { index = index; record_of = event.now }) }
 {
     let hash = hash_of(event.aggregate.parts());
-    segment.matches(hash)
-        && (new.covers(segment, hash, index) && !old.covers(segment, hash, index))
+    segment.matches(hash) && (new.covers(segment, hash, index) && !old.covers(segment, hash, index))
 }
 
 fn few_gaps(part: &Plain) -> bool

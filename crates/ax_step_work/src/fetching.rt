@@ -1,8 +1,11 @@
-ghost use Rattle.std.specs.Prelude.{◌≡◌, ◌<◌, length, IfOk, IsTrue};
+ghost use Rattle.std.specs.Prelude.{◌≡◌, ◌<◌, length, Some, IfOk, IsTrue};
+ghost use Rattle.ax_claims.specs.Rows.{row_at};
 ghost use Rattle.ax_state.specs.Setting.{is_projection};
-ghost use Rattle.ax_world.specs.Whole.{state_of};
+ghost use Rattle.ax_state.specs.State.{desk_at};
+ghost use Rattle.ax_state.specs.Holding.{held_fence};
+ghost use Rattle.ax_world.specs.Whole.{state_of, place_at};
 ghost use Rattle.ax_world.specs.Moves.{IsMove};
-ghost use Rattle.ax_step_work.specs.Working.{fetch_at};
+ghost use Rattle.ax_step_work.specs.Working.{fetch_at, fetched, batch_of};
 
 use crate::bound::{count_fetched, fetched_token};
 use crate::held::{held_check, held_fence};
@@ -27,6 +30,8 @@ pub fn fetch(
     requires actor { actor < length world.now.whole.desks }
     ensures { IfOk result (IsMove world.now.whole (fetch_at (state_of world.now.whole) actor processor segment most)) }
 {
+    // what the log tells of its world: that it is well-formed
+    let _ = world.log();
     let held = held_fence(world.desk(actor).held.parts(), processor, segment);
     let row = world.rows(processor).get(segment);
     if let Some(refusal) = held_check(held, row) {
@@ -38,6 +43,7 @@ pub fn fetch(
     }
 }
 
+/// Puts the batch of a row, whose fence the actor holds, on its desk.
 fn fetch_row(
     alloc: Global,
     world: &World,
@@ -46,7 +52,12 @@ fn fetch_row(
     row: &TokenRow,
     most: u32,
 ) -> Result<Move, NoMemory>
+    requires projection { IsTrue (is_projection world.now.whole.setting processor) }
+    requires processor { processor < length world.now.whole.places }
     requires actor { actor < length world.now.whole.desks }
+    requires found { row_at row.now.segment (place_at world.now.whole processor).shelf.rows ≡ Some row.now }
+    requires held { held_fence processor row.now.segment (desk_at (state_of world.now.whole) actor).held ≡ Some row.now.fence }
+    ensures { IfOk result (IsMove world.now.whole (fetched (state_of world.now.whole) actor (batch_of (state_of world.now.whole) processor row.now.segment most row.now))) }
 {
     let cells = world.log().cells();
     let new = fetched_token(alloc, row.segment, &row.token, cells, most)?;
