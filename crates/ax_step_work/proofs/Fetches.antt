@@ -1,9 +1,8 @@
 -- What a fetch answers: a refusal changes nothing, and a batch leads to the state of the definition.
-use Rattle.std.proofs.Common.{◌≡◌, ℕ, ◌<◌, ◌==◌, Bool, true, false, IsTrue, List, [], ◌∷◌, length, filter, Option, Some, None, Result, Ok, Err, slice_get, if◌then◌else◌, refl, sym, ap, ◌∙◌, subst, arith}
+use Rattle.std.proofs.Common.{◌≡◌, ℕ, zero, suc, not, ◌<◌, ◌==◌, Bool, true, false, IsTrue, List, [], ◌∷◌, length, filter, Option, Some, None, Result, Ok, Err, slice_get, if◌then◌else◌, refl, sym, ap, ◌∙◌, subst, arith}
 use Rattle.std.specs.Prelude.{IfOk}
 use Rattle.std.proofs.lemmas.Bool.Decides.{nat_tests}
-use Rattle.std.proofs.lemmas.List.{length-map}
-use Rattle.ax_log.specs.Log.{events}
+use Rattle.ax_log.specs.Log.{events, option_is}
 use Rattle.ax_segments.specs.Segments.{Segment}
 use Rattle.ax_tokens.specs.Tokens.{Token}
 use Rattle.ax_claims.specs.Rows.{TokenRow, row_at}
@@ -13,7 +12,7 @@ use Rattle.ax_state.specs.State.{Shelf, Desk, Batch, Held, desk_at, shelf_at, em
 use Rattle.ax_state.specs.Holding.{held_fence, held_check, checked}
 use Rattle.ax_state.specs.Answer.{Answer}
 use Rattle.ax_state.proofs.Puts.{found-row}
-use Rattle.ax_world.specs.Whole.{Whole, Place, state_of, place_at}
+use Rattle.ax_world.specs.Whole.{Whole, state_of, place_at}
 use Rattle.ax_world.specs.Made.{made_all}
 use Rattle.ax_world.specs.Fits.{IsWorld}
 use Rattle.ax_world.specs.Moves.{IsMove}
@@ -23,21 +22,27 @@ use Rattle.ax_step_work.specs.Working.{is_fetched, batch_of, fetched, fetch_at, 
 use Rattle.ax_step_work.proofs.FetchKept.{kept-fetched}
 use Rattle.ax_world.specs.declared.edit.Edit.{Edit}
 use Rattle.ax_journal.specs.declared.reply.Reply.{Reply}
+use Rattle.ax_sheet.specs.declared.parts.Processor.{Processor}
 use Rattle.ax_values.specs.declared.cell.Cell.{Cell}
 
 pub ok-map : {A E : Type 0} (r : Result A E) (P Q : A → Type 0) → ((x : A) → P x → Q x) → IfOk r P → IfOk r Q
 ok-map (Ok x) P Q f h = f x h
 ok-map (Err e) P Q f h = tt
 
+within : {A : Type 0} (f : A → Bool) (xs : List A) (p : ℕ) → IsTrue (option_is f (slice_get xs p)) → p < length xs
+within f [] p h = absurd (cc)
+within f (x ∷ xs) zero h = omega arith
+within f (x ∷ xs) (suc p) h = let less : p < length xs = within f xs p h in omega arith
+
 -- ---- the batch
 
-pub fetch-move : (w : Whole) (actor p most : ℕ) (row : TokenRow) (old new : Desk) (t n : Token) (cells : List Cell) (records : ℕ) → IsWorld w → IsTrue (is_projection w.setting p) → p < length w.places → actor < length w.desks
+pub fetch-move : (w : Whole) (actor p most : ℕ) (row : TokenRow) (old new : Desk) (t n : Token) (cells : List Cell) (records : ℕ) → IsWorld w → IsTrue (is_projection w.setting p) → actor < length w.setting.actors
     → row_at row.segment (place_at w p).shelf.rows ≡ Some row → held_fence p row.segment (desk_at (state_of w) actor).held ≡ Some row.fence → slice_get w.desks actor ≡ Some old → cells ≡ w.cells → t ≡ row.token
     → n ≡ fetched_token row.segment row.token cells most → new ≡ record old { batch = Some (record { processor = p; segment = row.segment; fence = row.fence; old = t; new = n }) }
     → records ≡ length (filter (is_fetched row.segment row.token n) (events cells))
     → IsMove w (fetched (state_of w) actor (batch_of (state_of w) p row.segment most row)) (record { edits = Edit.SetDesk actor new ∷ []; reply = Reply.Fetched records; report = [] })
-fetch-move w actor p most row old new t n cells records h projection declared lt found held at cells_are t_is n_is new_is records_are =
-    moved w (Edit.SetDesk actor new ∷ []) (fetched (state_of w) actor b) (Reply.Fetched records) h (omega arith) (lt, tt) state
+fetch-move w actor p most row old new t n cells records h projection lt found held at cells_are t_is n_is new_is records_are =
+    moved w (Edit.SetDesk actor new ∷ []) (fetched (state_of w) actor b) (Reply.Fetched records) h (omega arith) ((let seats : length w.desks ≡ length w.setting.actors = h.state.actors in omega arith), tt) state
     (kept-fetched (state_of w) actor p row.segment most (place_at w p).shelf row shelf found h.state projection held) refl h.tables reply refl
   where
     b : Batch
@@ -60,7 +65,8 @@ fetch-move w actor p most row old new t n cells records h projection declared lt
 
     shelf : slice_get (state_of w).shelves p ≡ Some (place_at w p).shelf
     shelf =
-        let l : length (state_of w).shelves ≡ length w.places = length-map w.places (λ (x : Place). x.shelf) in
+        let l : length (state_of w).shelves ≡ length w.setting.processors = h.state.declared in
+        let lt : p < length w.setting.processors = within (λ (q : Processor). not q.saga) w.setting.processors p projection in
         get-at empty_shelf (state_of w).shelves p (omega arith) ∙ ap Some (shelf-place w p)
 
     reply : Reply.Fetched records ≡ Reply.Fetched (length (filter (is_fetched row.segment row.token b.new) (events w.cells)))

@@ -17,7 +17,7 @@ use ax_world::{Batch, Edit, Edits, Move, World};
 use std::alloc::Global;
 
 /// Puts a batch of at most so many records on the actor's desk.
-pub fn fetch(
+pub(crate) fn fetch(
     alloc: Global,
     world: &World,
     actor: u32,
@@ -26,8 +26,7 @@ pub fn fetch(
     most: u32,
 ) -> Result<Move, NoMemory>
     requires projection { IsTrue (is_projection world.now.whole.setting processor) }
-    requires processor { processor < length world.now.whole.places }
-    requires actor { actor < length world.now.whole.desks }
+    requires actor { actor < length world.now.whole.setting.actors }
     ensures { IfOk result (IsMove world.now.whole (fetch_at (state_of world.now.whole) actor processor segment most)) }
 {
     // what the log tells of its world: that it is well-formed
@@ -53,8 +52,7 @@ fn fetch_row(
     most: u32,
 ) -> Result<Move, NoMemory>
     requires projection { IsTrue (is_projection world.now.whole.setting processor) }
-    requires processor { processor < length world.now.whole.places }
-    requires actor { actor < length world.now.whole.desks }
+    requires actor { actor < length world.now.whole.setting.actors }
     requires found { row_at row.now.segment (place_at world.now.whole processor).shelf.rows ≡ Some row.now }
     requires held { held_fence processor row.now.segment (desk_at (state_of world.now.whole) actor).held ≡ Some row.now.fence }
     ensures { IfOk result (IsMove world.now.whole (fetched (state_of world.now.whole) actor (batch_of (state_of world.now.whole) processor row.now.segment most row.now))) }

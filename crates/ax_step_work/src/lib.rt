@@ -2,7 +2,9 @@
 #![tactic(auto)]
 
 mod bound;
+mod committing;
 mod fetching;
 mod held;
+mod steps;
 
-pub use fetching::fetch;
+pub use steps::step;
