@@ -51,7 +51,7 @@ are_numbered a i s p (e ∷ es) = (refl, are_numbered a i s (suc p) es)
 are_of : (chain : List Upcaster) (e : Stored) → AreOf e.record_of.aggregate (placed_items chain e)
 are_of chain e = are_numbered e.record_of.aggregate e.index e.record_of.seq 0 (chained chain (event_of_record e.record_of ∷ []))
 
-items-own : (chain : List Upcaster) (a : Name) (es : List Stored) → flat_map (placed_items chain) (filter (is_of a) es) ≡ own a (flat_map (placed_items chain) es)
+pub items-own : (chain : List Upcaster) (a : Name) (es : List Stored) → flat_map (placed_items chain) (filter (is_of a) es) ≡ own a (flat_map (placed_items chain) es)
 items-own chain a [] = refl
 items-own chain a (e ∷ es) = at (same_name e.record_of.aggregate a) refl (items-own chain a es) ∙ sym (filter-append (is_own a) (placed_items chain e) (flat_map (placed_items chain) es))
   where
@@ -78,7 +78,7 @@ rebuilt-rows : (rules : Rules) (chain : List Upcaster) (cells : List Cell) → r
 rebuilt-rows rules chain cells =
     map-same (row_of rules chain cells) (row (value rules (all_items chain cells))) (λ a. ap (λ xs. record { name = a; value = folded rules xs }) (items-own chain a (events cells))) (first_names (names (all_items chain cells)))
 
-no_own : (a : Name) (xs : List Placed) → list_any (same_name a) (names xs) ≡ false → own a xs ≡ []
+pub no_own : (a : Name) (xs : List Placed) → list_any (same_name a) (names xs) ≡ false → own a xs ≡ []
 no_own a [] h = refl
 no_own a (x ∷ xs) h = at (same_name a (aggregate_of x)) refl h (no_own a xs)
   where
