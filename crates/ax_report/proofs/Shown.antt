@@ -33,7 +33,6 @@ use Rattle.ax_report.specs.Reports.{listed, line_of, row_line, processor_line, r
 use Rattle.ax_report.proofs.Listed.{row_shown, in-order}
 use Rattle.ax_values.specs.declared.cell.Cell.{Cell}
 use Rattle.ax_upcast.specs.declared.upcaster.Upcaster.{Upcaster}
-use Rattle.ax_projections.specs.declared.table.Positioned.{Positioned}
 use Rattle.ax_sheet.specs.declared.parts.Processor.{Processor}
 use Rattle.ax_journal.specs.declared.reply.Reply.{Reply}
 
@@ -114,12 +113,6 @@ nonempty chain (e ∷ es) h = omega arith
 pub rebuilt-look_up : (rules : Rules) (chain : List Upcaster) (cells : List Cell) (a : Name) → look_up a (rebuilt rules chain cells) ≡ row_shown (rebuilt_at rules chain cells a)
 rebuilt-look_up rules chain cells a = at (nat_lt 0 (length (items_of chain a cells))) refl
   where
-    value : Name → Positioned
-    value b = folded rules (items_of chain b cells)
-
-    ks : List Name
-    ks = first_names (map aggregate_of (all_items chain cells))
-
     some : list_any (same_name a) (first_names (map aggregate_of (all_items chain cells))) ≡ nat_lt 0 (length (items_of chain a cells))
     some = any-firsts a (map aggregate_of (all_items chain cells)) ∙ among-own a (all_items chain cells) ∙ ap (λ xs. nat_lt 0 (length xs)) (sym (items-own chain a (events cells)))
 
