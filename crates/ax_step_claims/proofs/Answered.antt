@@ -162,8 +162,3 @@ claim-move w actor p s now fence owner old new was desk held move h lt clock nex
 
 pub named : (names read_from : List Name) (k : ℕ) (owner read : Name) → k < length names → owner ≡ read → read ≡ get_or read_from k read → read_from ≡ names → owner ≡ name_at names k
 named names read_from k owner read lt e h same = e ∙ sym (ap (option_or []) (get-read names k read lt (h ∙ ap (λ ns. get_or ns k read) same)))
-
-pub place-declared : (w : Whole) (p : ℕ) → IsWorld w → p < length w.setting.processors → p < length w.places
-place-declared w p h lt =
-    let l : length (map (λ (x : Place). x.shelf) w.places) ≡ length w.places = length-map w.places (λ x. x.shelf) in
-    let d : length (map (λ (x : Place). x.shelf) w.places) ≡ length w.setting.processors = h.state.declared in omega arith

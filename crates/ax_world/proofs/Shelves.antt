@@ -1,5 +1,6 @@
 -- Token rows that are set: what they make of the state and of the tables.
-use Rattle.std.proofs.Common.{◌≡◌, ℕ, zero, suc, ◌+◌, ◌<◌, List, [], ◌∷◌, map, length, Some, slice_get, slice_set, refl, sym, ap, ◌∙◌, arith}
+use Rattle.std.proofs.Common.{◌≡◌, ℕ, zero, suc, ◌<◌, List, [], ◌∷◌, map, length, Some, slice_get, slice_set, refl, sym, ap, ◌∙◌, arith}
+use Rattle.std.proofs.lemmas.List.{length-map}
 use Rattle.ax_log.specs.Log.{events}
 use Rattle.ax_claims.specs.Rows.{TokenRow}
 use Rattle.ax_state.specs.Every.{AllFrom, option_or}
@@ -8,7 +9,7 @@ use Rattle.ax_state.specs.Portions.{portions, covered_events}
 use Rattle.ax_state.proofs.Lists.{AllFrom-set, AllFrom-get}
 use Rattle.ax_world.specs.Whole.{Whole, Place, empty_place, state_of, place_at}
 use Rattle.ax_world.specs.Made.{made, with_shelf}
-use Rattle.ax_world.specs.Fits.{IsTable, folded_row}
+use Rattle.ax_world.specs.Fits.{IsWorld, IsTable, folded_row}
 use Rattle.ax_world.proofs.Kept.{map_set}
 use Rattle.ax_world.specs.declared.edit.Edit.{Edit}
 
@@ -39,3 +40,9 @@ tables-rows w p rows lt same h =
     AllFrom-set (IsTable w.setting (events w.cells)) 0 w.places p (with_shelf (record (place_at w p).shelf { rows = rows }) (place_at w p)) h (λ k e a.
     AllFrom-get (IsTable w.setting (events w.cells)) 0 w.places p (place_at w p) h (get-at empty_place w.places p lt) k e a
     ∙ ap (λ ps. folded_row w.setting k (covered_events ps (events w.cells)) (place_at w p).shelf a) (sym same))
+
+-- each declared processor has a place
+pub place-declared : (w : Whole) (p : ℕ) → IsWorld w → p < length w.setting.processors → p < length w.places
+place-declared w p h lt =
+    let l : length (map (λ (x : Place). x.shelf) w.places) ≡ length w.places = length-map w.places (λ x. x.shelf) in
+    let d : length (map (λ (x : Place). x.shelf) w.places) ≡ length w.setting.processors = h.state.declared in omega arith

@@ -2,9 +2,10 @@ use Rattle.std.proofs.Common.{◌≡◌, ◌+◌, [], ◌∙◌, sym, ap, subst}
 use Rattle.ax_state.specs.State.{actor_name}
 use Rattle.ax_world.specs.Whole.{state_of}
 use Rattle.ax_world.specs.Moves.{IsMove}
+use Rattle.ax_world.proofs.Shelves.{place-declared}
 use Rattle.ax_journal.specs.declared.reply.Reply.{Reply}
 use Rattle.ax_step_claims.specs.Claiming.{NamesOwned, hold_fence, refused_reply}
-use Rattle.ax_step_claims.proofs.Answered.{refusal, grant, names-owned, refused-move, claim-move, named, place-declared, three}
+use Rattle.ax_step_claims.proofs.Answered.{refusal, grant, names-owned, refused-move, claim-move, named, three}
 use Rattle.ax_step_claims.proofs.claim.claim_segment.Goals as goal
 
 pub refused_reply-requires : goal.refused_reply-requires
