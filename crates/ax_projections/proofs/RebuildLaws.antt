@@ -78,7 +78,7 @@ rebuilt-rows : (rules : Rules) (chain : List Upcaster) (cells : List Cell) → r
 rebuilt-rows rules chain cells =
     map-same (row_of rules chain cells) (row (value rules (all_items chain cells))) (λ a. ap (λ xs. record { name = a; value = folded rules xs }) (items-own chain a (events cells))) (first_names (names (all_items chain cells)))
 
-pub no_own : (a : Name) (xs : List Placed) → list_any (same_name a) (names xs) ≡ false → own a xs ≡ []
+no_own : (a : Name) (xs : List Placed) → list_any (same_name a) (names xs) ≡ false → own a xs ≡ []
 no_own a [] h = refl
 no_own a (x ∷ xs) h = at (same_name a (aggregate_of x)) refl h (no_own a xs)
   where
