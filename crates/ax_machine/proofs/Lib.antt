@@ -1,0 +1,6 @@
+pub mod Known
+pub mod Stays
+pub mod Counts
+pub mod Runs
+pub mod AtHead
+pub mod Kept
