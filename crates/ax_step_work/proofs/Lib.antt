@@ -3,3 +3,7 @@ pub mod Covering
 pub mod FetchKept
 pub mod Folding
 pub mod CommitKept
+pub mod Handled
+pub mod Outcomes
+pub mod Tables
+pub mod Commits

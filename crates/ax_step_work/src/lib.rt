@@ -2,7 +2,9 @@
 #![tactic(auto)]
 
 mod bound;
+mod committing;
 mod fetching;
+mod handling;
 mod held;
 
 pub use fetching::fetch;
