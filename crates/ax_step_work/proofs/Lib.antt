@@ -5,3 +5,7 @@ pub mod Folding
 pub mod CommitKept
 pub mod Bounds
 pub mod Fetches
+pub mod Handled
+pub mod Outcomes
+pub mod Tables
+pub mod Commits

@@ -4,6 +4,7 @@
 mod bound;
 mod committing;
 mod fetching;
+mod handling;
 mod held;
 mod steps;
 
