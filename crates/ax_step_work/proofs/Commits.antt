@@ -1,7 +1,7 @@
 -- The moves of a commit: what it refuses changes no row, and what it installs leads to the state of the definition.
-use Rattle.std.proofs.Common.{◌≡◌, ℕ, zero, suc, ◌+◌, ◌-◌, ◌^◌, ◌<◌, ◌≤◌, ◌==◌, ◌&&◌, Bool, true, false, not, List, [], ◌∷◌, ◌++◌, length, map, get_or, Option, Some, None, Result, Ok, Err, IsTrue, is_some, slice_get, slice_set, if◌then◌else◌, nat_lt, refl, sym, ap, ◌∙◌, subst, true≢false, arith}
-use Rattle.std.specs.Prelude.{IfSome, IfOk, IsOk}
-use Rattle.std.specs.List.{AllByRecursion, IsDistinct, list_all, list_any}
+use Rattle.std.proofs.Common.{◌≡◌, ℕ, zero, suc, ◌+◌, ◌<◌, ◌≤◌, ◌==◌, Bool, true, false, not, List, [], ◌∷◌, ◌++◌, length, map, get_or, Option, Some, None, Result, Ok, Err, is_some, slice_get, slice_set, if◌then◌else◌, nat_lt, refl, sym, ap, ◌∙◌, subst, true≢false, arith}
+use Rattle.std.specs.Prelude.{IfSome, IfOk}
+use Rattle.std.specs.List.{IsDistinct, list_all}
 use Rattle.std.proofs.lemmas.Bool.Decides.{nat_tests}
 use Rattle.std.proofs.lemmas.List.{length-map, length-append, length-set}
 use Rattle.ax_values.specs.Grammar.{Name}
@@ -9,33 +9,33 @@ use Rattle.ax_values.specs.Words.{same_name}
 use Rattle.ax_values.proofs.Options.{both}
 use Rattle.ax_log.specs.Log.{Stored, events, option_is}
 use Rattle.ax_rules.specs.Expr.{Row}
-use Rattle.ax_rules.specs.Rules.{Rules, start_row, row_or}
+use Rattle.ax_rules.specs.Rules.{Rules, fold_items, start_row, row_or}
 use Rattle.ax_rules.specs.Why.{why_text}
-use Rattle.ax_segments.specs.Segments.{Segment, hash_of, matches}
+use Rattle.ax_segments.specs.Segments.{hash_of, matches}
 use Rattle.ax_upcast.specs.Upcast.{IsFew}
 use Rattle.ax_projections.specs.Table.{Entry, look_up, put_entry}
 use Rattle.ax_projections.specs.Items.{Placed, plain_items}
 use Rattle.ax_projections.specs.Rebuild.{or_start}
 use Rattle.ax_claims.specs.Rows.{TokenRow, row_at, put_row}
 use Rattle.ax_claims.proofs.Places.{get-read, get-within}
-use Rattle.ax_sheet.specs.Sheet.{Sheet, projection_named}
+use Rattle.ax_sheet.specs.Sheet.{Sheet, projection_named, saga_named}
 use Rattle.ax_sheet.specs.Declarations.{AreProcessors, is_of_sheet}
 use Rattle.ax_state.specs.Every.{AllFrom, count, option_or}
 use Rattle.ax_state.specs.Setting.{Setting, is_projection, projection_at, processor_at, no_rules, no_processor}
-use Rattle.ax_state.specs.State.{State, Shelf, Desk, Batch, shelf_at, desk_at, empty_desk, empty_shelf, with_desk, with_rows}
+use Rattle.ax_state.specs.State.{State, Shelf, Desk, Batch, shelf_at, desk_at, empty_desk, empty_shelf}
 use Rattle.ax_state.specs.Answer.{Answer, answer}
 use Rattle.ax_state.specs.Portions.{portions, covered_events, items_in, row_by}
 use Rattle.ax_state.specs.WellFormed.{IsBatchIn}
 use Rattle.ax_state.proofs.Lists.{All-at, AllFrom-set, AllFrom-get}
 use Rattle.ax_world.specs.Whole.{Whole, Place, empty_place, state_of, place_at}
 use Rattle.ax_world.specs.Made.{made, made_all, with_place, with_shelf}
-use Rattle.ax_world.specs.Fits.{IsWorld, IsTable, CanMake, CanMakeAll, HasPlaceFor, is_cells, row_if, folded_row}
+use Rattle.ax_world.specs.Fits.{IsWorld, IsTable, CanMakeAll, is_cells, row_if, folded_row}
 use Rattle.ax_world.specs.Moves.{IsMove}
 use Rattle.ax_world.proofs.Kept.{map_set, set_same}
 use Rattle.ax_world.proofs.Moves.{unmoved, moved}
 use Rattle.ax_world.proofs.Shelves.{get-at, shelf-place}
-use Rattle.ax_step_work.specs.Working.{Failure, first_failure, row_behind, share_of, present_row, batch_items, installed, committed, commit_over, with_batch}
-use Rattle.ax_step_work.specs.Handling.{Progress, nothing, present, handled, IsFitting, row_edits, stored_or}
+use Rattle.ax_step_work.specs.Working.{Failure, first_failure, share_of, present_row, batch_items, installed, committed, commit_over, with_batch}
+use Rattle.ax_step_work.specs.Handling.{Progress, nothing, first_of, present, handled, IsFitting, row_edits, stored_or}
 use Rattle.ax_step_work.proofs.CommitKept.{kept-emptied, kept-installed, added, row-after, present-is, IsAdded}
 use Rattle.ax_step_work.proofs.Folding.{row-now}
 use Rattle.ax_step_work.proofs.Handled.{length-put, fitting-items}
@@ -81,7 +81,7 @@ projection-found s p procs sheet q o h proj e same is value none =
     let some : is_some (projection_named s.sheet q.name) ≡ true = no-saga q.saga (subst (λ (x : Processor). not x.saga ≡ true) found k.2) fits in
     absurd (true≢false (sym some ∙ ap is_some (ap (λ t. projection_named t q.name) (sym is) ∙ sym value ∙ none)))
   where
-    no-saga : (b : Bool) → not b ≡ true → (if b then is_some (Rattle.ax_sheet.specs.Sheet.saga_named s.sheet q.name) else is_some (projection_named s.sheet q.name)) ≡ true → is_some (projection_named s.sheet q.name) ≡ true
+    no-saga : (b : Bool) → not b ≡ true → (if b then is_some (saga_named s.sheet q.name) else is_some (projection_named s.sheet q.name)) ≡ true → is_some (projection_named s.sheet q.name) ≡ true
     no-saga true n f = absurd (cc)
     no-saga false n f = f
 
@@ -124,13 +124,12 @@ made-rows (e ∷ es) p w lt =
 
 can-rows : (es : List Entry) (p : ℕ) (w : Whole) → p < length w.places → length (place_at w p).table + length es ≤ 4000000000 → CanMakeAll w (row_edits p es)
 can-rows [] p w lt few = tt
-can-rows (e ∷ es) p w lt few =
-    (
-      (lt, λ none. omega (arith, few)),
-      can-rows es p (with_place p x w) (let l : length (slice_set w.places p x) ≡ length w.places = length-set w.places p x in omega (arith, l, lt))
+can-rows (e ∷ es) p w lt few = (
+  (lt, λ none. omega (arith, few)),
+  can-rows es p (with_place p x w) (let l : length (slice_set w.places p x) ≡ length w.places = length-set w.places p x in omega (arith, l, lt))
       (let same : length (place_at (with_place p x w) p).table ≡ length (put_entry e.name e.value (place_at w p).table) = ap (λ (y : Place). length y.table) (set-here empty_place w.places p x lt) in
       let l : length (put_entry e.name e.value (place_at w p).table) ≤ suc (length (place_at w p).table) = length-put e.name e.value (place_at w p).table in omega (arith, same, l, few)),
-    )
+)
   where
     x : Place
     x = with_table (put_entry e.name e.value (place_at w p).table) (place_at w p)
@@ -191,7 +190,7 @@ module _ (w : Whole) (actor : ℕ) (b : Batch) (h : IsWorld w) (mine : (desk_at 
 
   no-row : (a : Name) → n a ≡ 0 → row_now a ≡ Ok (start_row rules.fields)
   no-row a e =
-      row-now rules chain (covered_events (portions x.shelf.rows) es) a ∙ ap (λ ys. Rattle.ax_rules.specs.Rules.fold_items rules (plain_items ys)) (empty (items_in chain (covered_events (portions x.shelf.rows) es) a) e)
+      row-now rules chain (covered_events (portions x.shelf.rows) es) a ∙ ap (λ ys. fold_items rules (plain_items ys)) (empty (items_in chain (covered_events (portions x.shelf.rows) es) a) e)
     where
       empty : (ys : List Placed) → length ys ≡ 0 → ys ≡ []
       empty [] e = refl
@@ -291,15 +290,15 @@ module _ (w : Whole) (actor : ℕ) (b : Batch) (h : IsWorld w) (mine : (desk_at 
       table-then : IsTable w.setting es b.processor later
       table-then a = look-puts a s.rows x.table names ∙ by (look_up a s.rows) refl ∙ sym (is-folded a)
         where
-          by : (o : Option Positioned) → look_up a s.rows ≡ o → Rattle.ax_step_work.specs.Handling.first_of o (look_up a x.table) ≡ folded_then a (n a + length (share_of a xs)) (present rules x.table s.rows a).row
+          by : (o : Option Positioned) → look_up a s.rows ≡ o → first_of o (look_up a x.table) ≡ folded_then a (n a + length (share_of a xs)) (present rules x.table s.rows a).row
           by (Some v) e =
-              let is : present rules x.table s.rows a ≡ v = ap (λ o. or_start rules (Rattle.ax_step_work.specs.Handling.first_of o (look_up a x.table))) e in
+              let is : present rules x.table s.rows a ≡ v = ap (λ o. or_start rules (first_of o (look_up a x.table))) e in
               let count : v.position ≡ n a + length (share_of a xs) = ap (λ (p : Positioned). p.position) (sym is) ∙ stands.position a ∙ ap (λ (p : Positioned). p.position + length (share_of a xs)) (started a) in
               let pos : 0 < v.position = stands.touched a v e in
               let some : nat_lt 0 v.position ≡ true = grind (arith, nat_tests, pos) in
               sym (ap (λ (p : Positioned). folded_then a (n a + length (share_of a xs)) p.row) is ∙ ap (λ k. folded_then a k v.row) (sym count) ∙ ap (λ c. if c then Some (record { position = v.position; row = v.row }) else None) some)
           by None e =
-              let is : present rules x.table s.rows a ≡ or_start rules (look_up a x.table) = ap (λ o. or_start rules (Rattle.ax_step_work.specs.Handling.first_of o (look_up a x.table))) e in
+              let is : present rules x.table s.rows a ≡ or_start rules (look_up a x.table) = ap (λ o. or_start rules (first_of o (look_up a x.table))) e in
               let none : n a + length (share_of a xs) ≡ n a = (let z : length (share_of a xs) ≡ 0 = ap length (stands.untouched a e) in omega (arith, z)) in
               sym (ap (λ (p : Positioned). folded_then a (n a + length (share_of a xs)) p.row) (is ∙ started a) ∙ ap (λ k. folded_then a k (row_or (start_row rules.fields) (row_now a))) none ∙ same-kept)
             where

@@ -1,7 +1,7 @@
 -- What the items of a batch make of rows: positions and rows fit, and each item goes on where the one before ended.
-use Rattle.std.proofs.Common.{◌≡◌, ℕ, zero, suc, slice_get, append_assoc, ◌+◌, ◌*◌, ◌<◌, ◌≤◌, Bool, true, false, cond, List, [], ◌∷◌, ◌++◌, length, map, filter, flat_map, drop, get_or, drop-cons, length-drop, Option, Some, None, Result, Ok, Err, find, option_map, if◌then◌else◌, refl, sym, ap, ◌∙◌, subst, true≢false, arith}
+use Rattle.std.proofs.Common.{◌≡◌, ℕ, zero, suc, slice_get, append_assoc, ◌+◌, ◌*◌, ◌<◌, ◌≤◌, Bool, true, false, cond, List, [], ◌∷◌, ◌++◌, length, map, flat_map, drop, get_or, drop-cons, length-drop, Option, Some, None, Result, Ok, Err, find, option_map, if◌then◌else◌, refl, sym, ap, ◌∙◌, subst, true≢false, arith}
 use Rattle.std.proofs.lemmas.List.{map-append}
-use Rattle.ax_values.specs.Grammar.{Name, ItemName}
+use Rattle.ax_values.specs.Grammar.{Name}
 use Rattle.ax_values.specs.Words.{same_name}
 use Rattle.ax_log.specs.Log.{events_from}
 use Rattle.ax_rules.specs.Expr.{Row}
@@ -10,7 +10,7 @@ use Rattle.ax_upcast.specs.Upcast.{upcast}
 use Rattle.ax_projections.specs.Table.{Entry, look_up, put_entry}
 use Rattle.ax_projections.specs.Items.{Placed, placed, placed_items, plain_items}
 use Rattle.ax_projections.specs.Rebuild.{or_start}
-use Rattle.ax_projections.proofs.NameLaws.{name-is, name-sym, name-alike}
+use Rattle.ax_projections.proofs.NameLaws.{name-sym, name-alike}
 use Rattle.ax_projections.proofs.RowLaws.{length_applied}
 use Rattle.ax_state.specs.State.{Batch}
 use Rattle.ax_step_work.specs.Working.{Failure, is_fetched, fetched_events, batch_items}
@@ -87,9 +87,11 @@ module _ (rules : Rules) (kept : List Entry) where
       by (Err c) k e = absurd (cc)
       by (Ok row) k e =
           let is : record { rows = put_entry x.name.aggregate (record { position = (present rules kept s.rows x.name.aggregate).position + 1; row = row }) s.rows; items = s.items + 1 } ≡ t = cc in
-          subst (λ (u : Progress). IsFitting rules kept u × (u.items ≡ s.items + 1)) is
-          (fitting-put s x.name.aggregate (present rules kept s.rows x.name.aggregate).position row h (h.positions x.name.aggregate)
-          (ap (λ o. length (row_or (present rules kept s.rows x.name.aggregate).row o)) (sym k) ∙ length_applied rules (present rules kept s.rows x.name.aggregate).row x ∙ h.fields x.name.aggregate), refl)
+          subst (λ (u : Progress). IsFitting rules kept u × (u.items ≡ s.items + 1)) is (
+            fitting-put s x.name.aggregate (present rules kept s.rows x.name.aggregate).position row h (h.positions x.name.aggregate)
+                (ap (λ o. length (row_or (present rules kept s.rows x.name.aggregate).row o)) (sym k) ∙ length_applied rules (present rules kept s.rows x.name.aggregate).row x ∙ h.fields x.name.aggregate),
+            refl,
+          )
 
   pub fitting-items : (xs : List Item) (s t : Progress) → IsFitting rules kept s → handled rules kept xs s ≡ Ok t → IsFitting rules kept t × (t.items ≡ s.items + length xs)
   fitting-items [] s t h e = let is : s ≡ t = cc in subst (λ (u : Progress). IsFitting rules kept u × (u.items ≡ s.items + 0)) is (h, omega arith)
@@ -167,8 +169,7 @@ module _ (rules : Rules) (kept : List Entry) where
       → IsFitting rules kept s → handled rules kept (drop i xs) s ≡ o → s.items + length (drop i xs) ≡ w → (handled rules kept (drop (i + 1) xs) new ≡ o) × IsFitting rules kept new × (new.items + length (drop (i + 1) xs) ≡ w)
   item-step xs i x s new a w o lt e none h fits same count =
       let done : handled_item rules kept x s ≡ Ok new = was-done (handled_item rules kept x s) new (subst (λ a. IsHandled (handled_item rules kept x s) a new) none h) in
-      let fit = fitting-item rules kept x s new fits done in
-      (
+      let fit = fitting-item rules kept x s new fits done in (
         sym (next-item rules kept xs i x s lt e ∙ ap (λ o. and_on o (λ t. handled rules kept (drop (i + 1) xs) t)) done) ∙ same,
         fit.0,
         (let k : new.items ≡ s.items + 1 = fit.1 in omega (arith, k, count, length-drop i xs, length-drop (i + 1) xs)),
@@ -186,8 +187,7 @@ module _ (rules : Rules) (kept : List Entry) where
         → (handled rules kept (left chain b (i + 1) (drop (i + 1) cells)) new ≡ o) × IsFitting rules kept new × (new.items ≤ 8 * (i + 1))
     cell-step cells i c s new a items o lt e is few none h fits same count =
         let done : handled rules kept items s ≡ Ok new = was-done (handled rules kept items s) new (subst (λ a. IsHandled (handled rules kept items s) a new) none h) in
-        let fit = fitting-items rules kept items s new fits done in
-        (
+        let fit = fitting-items rules kept items s new fits done in (
           sym (cells-split cells i c s items lt e is ∙ ap (λ o. and_on o (λ t. handled rules kept (left chain b (i + 1) (drop (i + 1) cells)) t)) done) ∙ same,
           fit.0,
           (let k : new.items ≡ s.items + length items = fit.1 in omega (arith, k, count, few)),

@@ -1,5 +1,5 @@
 -- Items that are handled one after another lead to what the definition of a commit says of each aggregate, or to its first failure.
-use Rattle.std.proofs.Common.{◌≡◌, ℕ, suc, ◌+◌, ◌<◌, Bool, true, false, List, [], ◌∷◌, ◌++◌, length, map, filter, Option, Some, None, Result, Ok, Err, if◌then◌else◌, append_assoc, append-nil, refl, sym, ap, ◌∙◌, subst, arith}
+use Rattle.std.proofs.Common.{◌≡◌, ℕ, ◌+◌, ◌<◌, Bool, true, false, List, [], ◌∷◌, ◌++◌, length, Some, None, Result, Ok, Err, if◌then◌else◌, append_assoc, append-nil, refl, sym, ap, ◌∙◌, subst, arith}
 use Rattle.std.proofs.lemmas.List.{map-append, length-append}
 use Rattle.std.proofs.lemmas.List.Elements.{filter-append}
 use Rattle.ax_values.specs.Grammar.{Name}
@@ -14,7 +14,6 @@ use Rattle.ax_step_work.specs.Working.{Failure, failure_or, first_failure, row_b
 use Rattle.ax_step_work.specs.Handling.{Progress, nothing, present, put_next, and_on, handled}
 use Rattle.ax_step_work.proofs.Folding.{fold-append}
 use Rattle.ax_step_work.proofs.Handled.{look-put, present-put}
-use Rattle.ax_values.specs.declared.item.Item.{Item}
 use Rattle.ax_rules.specs.declared.cause.Cause.{Cause}
 use Rattle.ax_projections.specs.declared.table.Positioned.{Positioned}
 

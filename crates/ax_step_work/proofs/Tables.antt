@@ -1,8 +1,6 @@
 -- The table of a processor after a commit: each row is the fold of what is covered then, and a new row finds a place.
-use Rattle.std.proofs.Common.{◌≡◌, ℕ, zero, suc, ◌+◌, ◌*◌, ◌<◌, ◌≤◌, Bool, true, false, not, ◌||◌, cond, List, [], ◌∷◌, ◌++◌, length, map, filter, flat_map, take, Option, Some, None, Result, Ok, Err, is_some, if◌then◌else◌, nat_lt, refl, sym, ap, ◌∙◌, subst, true≢false, arith}
-use Rattle.std.specs.Prelude.{IsOk}
+use Rattle.std.proofs.Common.{◌≡◌, ℕ, suc, ◌*◌, ◌≤◌, Bool, true, false, not, ◌||◌, cond, List, [], ◌∷◌, length, map, filter, flat_map, take, Some, None, Result, Ok, Err, is_some, if◌then◌else◌, refl, sym, ap, ◌∙◌, subst, true≢false, arith}
 use Rattle.std.specs.List.{AllByRecursion, IsDistinct, list_any}
-use Rattle.std.proofs.lemmas.Bool.Decides.{nat_tests}
 use Rattle.std.proofs.lemmas.List.{length-map, length-append, take_all}
 use Rattle.std.proofs.lemmas.Map.Keys.{IsDistinct-head, IsDistinct-tail}
 use Rattle.ax_values.specs.Grammar.{Name}
@@ -12,8 +10,8 @@ use Rattle.ax_rules.specs.Expr.{Row}
 use Rattle.ax_rules.specs.Rules.{Rules, and_then, applied, fold_from, start_row, row_or}
 use Rattle.ax_upcast.specs.Upcast.{IsFew, upcast, numbered, chained, event_of_record}
 use Rattle.ax_projections.specs.Table.{Entry, look_up, put_entry}
-use Rattle.ax_projections.specs.Items.{Placed, placed, placed_items, plain_items}
-use Rattle.ax_projections.specs.Rebuild.{or_start, without}
+use Rattle.ax_projections.specs.Items.{placed, placed_items, plain_items}
+use Rattle.ax_projections.specs.Rebuild.{without}
 use Rattle.ax_projections.proofs.NameLaws.{name-is, name-sym, name-refl}
 use Rattle.ax_projections.proofs.RowLaws.{length_applied}
 use Rattle.ax_state.specs.Portions.{Portion, covered_events, items_in, row_by}
@@ -26,7 +24,6 @@ use Rattle.ax_values.specs.declared.cell.Cell.{Cell}
 use Rattle.ax_values.specs.declared.item.Item.{Item}
 use Rattle.ax_rules.specs.declared.cause.Cause.{Cause}
 use Rattle.ax_rules.specs.declared.rules.Initial.{Initial}
-use Rattle.ax_projections.specs.declared.table.Positioned.{Positioned}
 use Rattle.ax_upcast.specs.declared.upcaster.Upcaster.{Upcaster}
 use Rattle.ax_upcast.specs.declared.event.Event.{Event}
 

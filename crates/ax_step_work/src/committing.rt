@@ -35,12 +35,7 @@ pub(crate) fn commit(alloc: Global, world: &World, actor: u32) -> Result<Move, N
     }
 }
 
-fn commit_batch(
-    alloc: Global,
-    world: &World,
-    actor: u32,
-    batch: &Batch,
-) -> Result<Move, NoMemory>
+fn commit_batch(alloc: Global, world: &World, actor: u32, batch: &Batch) -> Result<Move, NoMemory>
     requires actor { actor < length world.now.whole.desks }
     requires batch { (desk_at (state_of world.now.whole) actor).batch ≡ Some batch.now }
     ensures { IfOk result (IsMove world.now.whole (commit_batch (state_of world.now.whole) actor (Some batch.now))) }
@@ -119,12 +114,7 @@ fn projection(world: &World, processor: u32) -> &Rules
 }
 
 /// The batch is dropped.
-fn give_up(
-    alloc: Global,
-    world: &World,
-    actor: u32,
-    reply: Reply,
-) -> Result<Move, NoMemory>
+fn give_up(alloc: Global, world: &World, actor: u32, reply: Reply) -> Result<Move, NoMemory>
     requires { actor < length world.now.whole.desks }
     ensures { IfOk result (λ made. made ≡ record { edits = Edit.SetDesk actor (record (desk_at (state_of world.now.whole) actor) { batch = None }) ∷ []; reply = reply; report = [] }) }
 {
@@ -180,12 +170,7 @@ fn install(
 }
 
 /// Adds an edit for each row.
-fn push_rows(
-    alloc: Global,
-    edits: &mut Edits,
-    processor: u32,
-    rows: &Table,
-) -> Result<(), NoMemory>
+fn push_rows(alloc: Global, edits: &mut Edits, processor: u32, rows: &Table) -> Result<(), NoMemory>
     ensures value { OnOk result (edits.new ≡ edits.old ++ row_edits processor rows.now.entries) }
     ensures names { IsDistinct same_name (map (λ row. row.name) rows.now.entries) }
 {

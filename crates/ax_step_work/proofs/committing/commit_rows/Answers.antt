@@ -1,4 +1,4 @@
-use Rattle.std.proofs.Common.{◌≡◌, ◌<◌, ◌∙◌, IsTrue, length, ap, sym, subst}
+use Rattle.std.proofs.Common.{◌<◌, ◌∙◌, IsTrue, length, ap, sym, subst}
 use Rattle.std.proofs.lemmas.Result.{IfOk-weaker}
 use Rattle.ax_state.specs.Setting.{is_projection}
 use Rattle.ax_state.specs.State.{Batch}

@@ -2,7 +2,7 @@ use Rattle.std.proofs.Common.{ap, sym, ◌∙◌}
 use Rattle.std.specs.Option.{option_copied}
 use Rattle.ax_sheet.specs.Sheet.{projection_named}
 use Rattle.ax_sheet.specs.declared.parts.Processor.{Processor}
-use Rattle.ax_step_work.proofs.Commits.{processor-within, projection-read, projection-found}
+use Rattle.ax_step_work.proofs.Commits.{projection-read, projection-found}
 use Rattle.ax_step_work.proofs.committing.projection.Goals as goal
 
 pub unreachable-requires : goal.unreachable-requires

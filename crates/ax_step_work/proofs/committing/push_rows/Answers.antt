@@ -1,4 +1,4 @@
-use Rattle.std.proofs.Common.{◌<◌, length, subst}
+use Rattle.std.proofs.Common.{◌<◌, subst}
 use Rattle.ax_step_work.proofs.Handled.{next-edit}
 use Rattle.ax_step_work.proofs.committing.push_rows.Goals as goal
 

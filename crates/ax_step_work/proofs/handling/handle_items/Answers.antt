@@ -1,5 +1,3 @@
-use Rattle.std.proofs.Common.{length}
-use Rattle.ax_step_work.specs.Handling.{handled}
 use Rattle.ax_step_work.proofs.Handled.{none-of, item-step}
 use Rattle.ax_step_work.proofs.handling.handle_items.Goals as goal
 
