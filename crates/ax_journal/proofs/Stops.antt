@@ -1,5 +1,5 @@
 -- Of the steps of an order a stop is the last.
-use Rattle.std.proofs.Common.{◌≡◌, Bool, true, false, not, ◌&&◌, List, [], ◌∷◌, Option, Some, None, IfSome, IsTrue, refl, sym, ap, ◌∙◌}
+use Rattle.std.proofs.Common.{◌≡◌, true, false, not, ◌&&◌, List, [], ◌∷◌, Option, Some, None, IfSome, IsTrue, refl, sym, ap, ◌∙◌}
 use Rattle.ax_journal.specs.declared.fields.Fields.{Fields}
 use Rattle.ax_journal.specs.declared.form.Form.{Form}
 use Rattle.ax_journal.specs.declared.order.Order.{Order}

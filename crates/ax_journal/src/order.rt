@@ -148,37 +148,27 @@ impl Order {
     pub(crate) fn copy_fields(&self, alloc: Global) -> Result<Fields, NoMemory>
         ensures { IfOk result (λ fields. fields ≡ fields_of self.now) }
     {
-        Ok(match self {
-            Order::Tick { ms } => Fields::Moment(*ms),
-            Order::Void { cell } => Fields::Cell(*cell),
+        match self {
+            Order::Tick { ms } => Ok(Fields::Moment(*ms)),
+            Order::Void { cell } => Ok(Fields::Cell(*cell)),
             Order::Send {
                 aggregate,
                 command,
                 args,
-            } => Fields::Command {
-                aggregate: aggregate.copy(alloc)?,
-                command: command.copy(alloc)?,
-                args: args.copy(alloc)?,
-            },
-            Order::Policy { processor, keep } => Fields::Policy {
-                processor: processor.copy(alloc)?,
-                keep: *keep,
-            },
+            } => copy_command(alloc, aggregate, command, args),
+            Order::Policy { processor, keep } => copy_policy(alloc, processor, *keep),
             Order::Snapshot { aggregate: name }
             | Order::Reset { processor: name }
             | Order::Take { processor: name }
             | Order::ShowRows { processor: name }
             | Order::ShowTokens { processor: name }
             | Order::ShowLetters { processor: name }
-            | Order::ShowSagas { processor: name } => Fields::Name(name.copy(alloc)?),
+            | Order::ShowSagas { processor: name } => Ok(Fields::Name(name.copy(alloc)?)),
             Order::Claim { processor, segment }
             | Order::Extend { processor, segment }
             | Order::Release { processor, segment }
             | Order::Split { processor, segment }
-            | Order::Merge { processor, segment } => Fields::Segment {
-                processor: processor.copy(alloc)?,
-                segment: *segment,
-            },
+            | Order::Merge { processor, segment } => copy_place(alloc, processor, *segment),
             Order::Fetch {
                 processor,
                 segment,
@@ -188,25 +178,12 @@ impl Order {
                 processor,
                 segment,
                 max,
-            } => Fields::UpTo {
-                processor: processor.copy(alloc)?,
-                segment: *segment,
-                max: *max,
-            },
+            } => copy_up_to(alloc, processor, *segment, *max),
             Order::Evict { processor, item }
             | Order::Mark { processor, item }
-            | Order::Heal { processor, item } => Fields::Item {
-                processor: processor.copy(alloc)?,
-                item: item.copy(alloc)?,
-            },
-            Order::Append
-            | Order::Deliver
-            | Order::Commit
-            | Order::Settle
-            | Order::Stop
-            | Order::ShowLog
-            | Order::ShowSent => Fields::Nothing,
-        })
+            | Order::Heal { processor, item } => copy_item(alloc, processor, item),
+            _ => Ok(Fields::Nothing),
+        }
     }
 
     fn write_fields(&self, alloc: Global, out: &mut Vec<u8>) -> Result<(), NoMemory>
@@ -220,16 +197,8 @@ impl Order {
                 aggregate,
                 command,
                 args,
-            } => write_parts(
-                alloc,
-                &[Part::Name(aggregate), Part::Name(command), Part::Args(args)],
-                out,
-            ),
-            Order::Policy { processor, keep } => write_parts(
-                alloc,
-                &[Part::Name(processor), Part::Word(policy_word(*keep))],
-                out,
-            ),
+            } => write_command(alloc, aggregate, command, args, out),
+            Order::Policy { processor, keep } => write_policy(alloc, processor, *keep, out),
             Order::Snapshot { aggregate: name }
             | Order::Reset { processor: name }
             | Order::Take { processor: name }
@@ -241,11 +210,7 @@ impl Order {
             | Order::Extend { processor, segment }
             | Order::Release { processor, segment }
             | Order::Split { processor, segment }
-            | Order::Merge { processor, segment } => write_parts(
-                alloc,
-                &[Part::Name(processor), Part::Segment(*segment)],
-                out,
-            ),
+            | Order::Merge { processor, segment } => write_place(alloc, processor, *segment, out),
             Order::Fetch {
                 processor,
                 segment,
@@ -255,31 +220,148 @@ impl Order {
                 processor,
                 segment,
                 max,
-            } => write_parts(
-                alloc,
-                &[
-                    Part::Name(processor),
-                    Part::Segment(*segment),
-                    Part::Small(*max),
-                ],
-                out,
-            ),
+            } => write_up_to(alloc, processor, *segment, *max, out),
             Order::Evict { processor, item }
             | Order::Mark { processor, item }
-            | Order::Heal { processor, item } => write_parts(
-                alloc,
-                &[Part::Name(processor), Part::Item(item)],
-                out,
-            ),
-            Order::Append
-            | Order::Deliver
-            | Order::Commit
-            | Order::Settle
-            | Order::Stop
-            | Order::ShowLog
-            | Order::ShowSent => Ok(()),
+            | Order::Heal { processor, item } => write_item(alloc, processor, item, out),
+            _ => Ok(()),
         }
     }
+}
+
+fn copy_command(
+    alloc: Global,
+    aggregate: &Name,
+    command: &Name,
+    args: &Payload,
+) -> Result<Fields, NoMemory>
+    ensures { IfOk result (λ fields. fields ≡ Fields.Command aggregate.now command.now args.now) }
+{
+    Ok(Fields::Command {
+        aggregate: aggregate.copy(alloc)?,
+        command: command.copy(alloc)?,
+        args: args.copy(alloc)?,
+    })
+}
+
+fn copy_policy(alloc: Global, processor: &Name, keep: bool) -> Result<Fields, NoMemory>
+    ensures { IfOk result (λ fields. fields ≡ Fields.Policy processor.now keep) }
+{
+    Ok(Fields::Policy {
+        processor: processor.copy(alloc)?,
+        keep,
+    })
+}
+
+fn copy_place(alloc: Global, processor: &Name, segment: Segment) -> Result<Fields, NoMemory>
+    ensures { IfOk result (λ fields. fields ≡ Fields.Segment processor.now segment) }
+{
+    Ok(Fields::Segment {
+        processor: processor.copy(alloc)?,
+        segment,
+    })
+}
+
+fn copy_up_to(
+    alloc: Global,
+    processor: &Name,
+    segment: Segment,
+    max: u32,
+) -> Result<Fields, NoMemory>
+    ensures { IfOk result (λ fields. fields ≡ Fields.UpTo processor.now segment max) }
+{
+    Ok(Fields::UpTo {
+        processor: processor.copy(alloc)?,
+        segment,
+        max,
+    })
+}
+
+fn copy_item(alloc: Global, processor: &Name, item: &ItemName) -> Result<Fields, NoMemory>
+    ensures { IfOk result (λ fields. fields ≡ Fields.Item processor.now item.now) }
+{
+    Ok(Fields::Item {
+        processor: processor.copy(alloc)?,
+        item: item.copy(alloc)?,
+    })
+}
+
+fn write_command(
+    alloc: Global,
+    aggregate: &Name,
+    command: &Name,
+    args: &Payload,
+    out: &mut Vec<u8>,
+) -> Result<(), NoMemory>
+    ensures ok { OnOk result (out.new.items ≡ out.old.items ++ spaced (fields_words (Fields.Command aggregate.now command.now args.now))) }
+    ensures err { OnErr result (out.new.items ≡ out.old.items) }
+{
+    write_parts(
+        alloc,
+        &[Part::Name(aggregate), Part::Name(command), Part::Args(args)],
+        out,
+    )
+}
+
+fn write_policy(
+    alloc: Global,
+    processor: &Name,
+    keep: bool,
+    out: &mut Vec<u8>,
+) -> Result<(), NoMemory>
+    ensures ok { OnOk result (out.new.items ≡ out.old.items ++ spaced (fields_words (Fields.Policy processor.now keep))) }
+    ensures err { OnErr result (out.new.items ≡ out.old.items) }
+{
+    write_parts(
+        alloc,
+        &[Part::Name(processor), Part::Word(policy_word(keep))],
+        out,
+    )
+}
+
+fn write_place(
+    alloc: Global,
+    processor: &Name,
+    segment: Segment,
+    out: &mut Vec<u8>,
+) -> Result<(), NoMemory>
+    ensures ok { OnOk result (out.new.items ≡ out.old.items ++ spaced (fields_words (Fields.Segment processor.now segment))) }
+    ensures err { OnErr result (out.new.items ≡ out.old.items) }
+{
+    write_parts(alloc, &[Part::Name(processor), Part::Segment(segment)], out)
+}
+
+fn write_up_to(
+    alloc: Global,
+    processor: &Name,
+    segment: Segment,
+    max: u32,
+    out: &mut Vec<u8>,
+) -> Result<(), NoMemory>
+    ensures ok { OnOk result (out.new.items ≡ out.old.items ++ spaced (fields_words (Fields.UpTo processor.now segment max))) }
+    ensures err { OnErr result (out.new.items ≡ out.old.items) }
+{
+    write_parts(
+        alloc,
+        &[
+            Part::Name(processor),
+            Part::Segment(segment),
+            Part::Small(max),
+        ],
+        out,
+    )
+}
+
+fn write_item(
+    alloc: Global,
+    processor: &Name,
+    item: &ItemName,
+    out: &mut Vec<u8>,
+) -> Result<(), NoMemory>
+    ensures ok { OnOk result (out.new.items ≡ out.old.items ++ spaced (fields_words (Fields.Item processor.now item.now))) }
+    ensures err { OnErr result (out.new.items ≡ out.old.items) }
+{
+    write_parts(alloc, &[Part::Name(processor), Part::Item(item)], out)
 }
 
 /// Adds the order's words. Where memory is wanting, nothing is added.
