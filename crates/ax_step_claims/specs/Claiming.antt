@@ -1,5 +1,5 @@
 -- Steps on token rows: claim.
-use Rattle.std.specs.Prelude.{ℕ, suc, ◌==◌, Bool, not, ◌&&◌, List, [], ◌∷◌, ◌++◌, filter, Option, Some, None, if◌then◌else◌}
+use Rattle.std.specs.Prelude.{ℕ, suc, ◌<◌, ◌==◌, Bool, not, ◌&&◌, List, [], ◌∷◌, ◌++◌, length, filter, Option, Some, None, if◌then◌else◌}
 use Rattle.ax_values.specs.Grammar.{Name}
 use Rattle.ax_segments.specs.Segments.{Segment, same_segment}
 use Rattle.ax_claims.specs.Rows.{TokenRow, row_at, put_row}
@@ -7,7 +7,9 @@ use Rattle.ax_claims.specs.Changes.{is_claimed, owned}
 use Rattle.ax_state.specs.Setting.{processor_number}
 use Rattle.ax_state.specs.State.{State, Held, desk_at, shelf_at, with_desk, with_rows, with_fence, actor_name}
 use Rattle.ax_state.specs.Answer.{Answer, answer}
+use Rattle.ax_journal.specs.declared.order.Order.{Order}
 use Rattle.ax_journal.specs.declared.reply.Reply.{Reply}
+use Rattle.ax_sheet.specs.declared.parts.Processor.{Processor}
 
 abbrev pub claimed_reply : TokenRow → Option Name → Reply
 claimed_reply r None = Reply.Claimed [] r.since
@@ -40,3 +42,19 @@ claimed m actor p s (Some r) = if is_claimed (actor_name m actor) m.clock r then
 
 abbrev pub claim : State → ℕ → Name → Segment → Answer
 claim m actor name s = claimed m actor (processor_number m.setting.processors name) s (row_at s (shelf_at m (processor_number m.setting.processors name)).rows)
+
+-- ---- steps
+
+-- the orders of this crate
+abbrev pub IsClaiming : Order → Type 0
+IsClaiming (Order.Claim processor segment) = Unit {0}
+IsClaiming order = ⊥
+
+-- the processor that the order names is declared
+abbrev pub IsDeclared : List Processor → Order → Type 0
+IsDeclared processors (Order.Claim processor segment) = processor_number processors processor < length processors
+IsDeclared processors order = Unit {0}
+
+abbrev pub step : State → ℕ → Order → Answer
+step m actor (Order.Claim processor segment) = claim m actor processor segment
+step m actor order = answer m Reply.Done

@@ -1,2 +1,6 @@
 //! Steps on claims: an actor takes a segment.
 #![tactic(auto)]
+
+mod steps;
+
+pub use steps::step;

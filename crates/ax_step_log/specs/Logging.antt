@@ -16,6 +16,7 @@ use Rattle.ax_upcast.specs.declared.event.Event.{Event}
 use Rattle.ax_sheet.specs.declared.parts.Command.{Command}
 use Rattle.ax_sheet.specs.declared.decision.Decided.{Decided}
 use Rattle.ax_journal.specs.declared.reply.Reply.{Reply}
+use Rattle.ax_journal.specs.declared.order.Order.{Order}
 
 -- ---- reservations given up
 
@@ -87,3 +88,66 @@ appended m actor (Some r) = appended_unless m actor r (void_among m.cells r.firs
 
 abbrev pub append : State → ℕ → Answer
 append m actor = appended m actor (desk_at m actor).reservation
+
+-- ---- both
+
+-- send or append
+abbrev pub IsLogged : Order → Type 0
+IsLogged (Order.Send a command args) = Unit {0}
+IsLogged Order.Append = Unit {0}
+IsLogged (Order.Tick x) = ⊥
+IsLogged (Order.Void x) = ⊥
+IsLogged (Order.Snapshot x) = ⊥
+IsLogged Order.Deliver = ⊥
+IsLogged (Order.Claim p s) = ⊥
+IsLogged (Order.Extend p s) = ⊥
+IsLogged (Order.Release p s) = ⊥
+IsLogged (Order.Split p s) = ⊥
+IsLogged (Order.Merge p s) = ⊥
+IsLogged (Order.Reset p) = ⊥
+IsLogged (Order.Fetch p s n) = ⊥
+IsLogged Order.Commit = ⊥
+IsLogged (Order.Take p) = ⊥
+IsLogged Order.Settle = ⊥
+IsLogged (Order.Evict p x) = ⊥
+IsLogged (Order.Policy p k) = ⊥
+IsLogged (Order.Mark p x) = ⊥
+IsLogged (Order.Heal p x) = ⊥
+IsLogged (Order.Advance p s n) = ⊥
+IsLogged Order.Stop = ⊥
+IsLogged (Order.ShowRows p) = ⊥
+IsLogged (Order.ShowTokens p) = ⊥
+IsLogged (Order.ShowLetters p) = ⊥
+IsLogged (Order.ShowSagas p) = ⊥
+IsLogged Order.ShowLog = ⊥
+IsLogged Order.ShowSent = ⊥
+
+abbrev pub step : State → ℕ → Order → Answer
+step m actor (Order.Send a command args) = send m actor a command args
+step m actor Order.Append = append m actor
+step m actor (Order.Tick x) = answer m Reply.Done
+step m actor (Order.Void x) = answer m Reply.Done
+step m actor (Order.Snapshot x) = answer m Reply.Done
+step m actor Order.Deliver = answer m Reply.Done
+step m actor (Order.Claim p s) = answer m Reply.Done
+step m actor (Order.Extend p s) = answer m Reply.Done
+step m actor (Order.Release p s) = answer m Reply.Done
+step m actor (Order.Split p s) = answer m Reply.Done
+step m actor (Order.Merge p s) = answer m Reply.Done
+step m actor (Order.Reset p) = answer m Reply.Done
+step m actor (Order.Fetch p s n) = answer m Reply.Done
+step m actor Order.Commit = answer m Reply.Done
+step m actor (Order.Take p) = answer m Reply.Done
+step m actor Order.Settle = answer m Reply.Done
+step m actor (Order.Evict p x) = answer m Reply.Done
+step m actor (Order.Policy p k) = answer m Reply.Done
+step m actor (Order.Mark p x) = answer m Reply.Done
+step m actor (Order.Heal p x) = answer m Reply.Done
+step m actor (Order.Advance p s n) = answer m Reply.Done
+step m actor Order.Stop = answer m Reply.Done
+step m actor (Order.ShowRows p) = answer m Reply.Done
+step m actor (Order.ShowTokens p) = answer m Reply.Done
+step m actor (Order.ShowLetters p) = answer m Reply.Done
+step m actor (Order.ShowSagas p) = answer m Reply.Done
+step m actor Order.ShowLog = answer m Reply.Done
+step m actor Order.ShowSent = answer m Reply.Done

@@ -1,5 +1,5 @@
 -- Steps on batches: fetch and commit.
-use Rattle.std.specs.Prelude.{ℕ, zero, suc, ◌==◌, Bool, not, ◌&&◌, List, [], ◌∷◌, ◌++◌, length, filter, flat_map, Option, Some, None, Result, Ok, Err, nat_lt, nat_le, if◌then◌else◌}
+use Rattle.std.specs.Prelude.{ℕ, zero, suc, ◌==◌, Bool, not, ◌&&◌, List, [], ◌∷◌, ◌++◌, length, filter, flat_map, Option, Some, None, Result, Ok, Err, nat_lt, nat_le, IsTrue, if◌then◌else◌}
 use Rattle.ax_values.specs.Grammar.{Name, ItemName}
 use Rattle.ax_values.specs.Words.{same_name}
 use Rattle.ax_log.specs.Log.{Stored, events}
@@ -10,7 +10,7 @@ use Rattle.ax_segments.specs.Segments.{Segment, hash_of, matches}
 use Rattle.ax_tokens.specs.Tokens.{Token, covers, advanced, collapsed, gaps_fit}
 use Rattle.ax_projections.specs.Items.{Placed, placed_items, plain_items}
 use Rattle.ax_claims.specs.Rows.{TokenRow, row_at, put_row}
-use Rattle.ax_state.specs.Setting.{processor_number, projection_at}
+use Rattle.ax_state.specs.Setting.{Setting, processor_number, projection_at, is_projection}
 use Rattle.ax_state.specs.State.{State, Batch, desk_at, shelf_at, with_desk, with_rows}
 use Rattle.ax_state.specs.Positions.{row_of}
 use Rattle.ax_state.specs.Holding.{on_held_row}
@@ -135,3 +135,14 @@ abbrev pub step : State → ℕ → Order → Answer
 step m actor (Order.Fetch name s most) = fetch m actor name s most
 step m actor Order.Commit = commit m actor
 step m actor o = answer m Reply.Done
+
+-- fetch or commit
+abbrev pub IsWork : Order → Type 0
+IsWork (Order.Fetch name s most) = Unit {0}
+IsWork Order.Commit = Unit {0}
+IsWork o = ⊥
+
+-- the processor that a fetch names is a projection
+abbrev pub IsDeclared : Setting → Order → Type 0
+IsDeclared setting (Order.Fetch name s most) = IsTrue (is_projection setting (processor_number setting.processors name))
+IsDeclared setting o = Unit {0}

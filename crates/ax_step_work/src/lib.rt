@@ -1,2 +1,6 @@
 //! Steps on batches: a fetch takes what a segment has not covered, and a commit folds it into the rows.
 #![tactic(auto)]
+
+mod steps;
+
+pub use steps::step;
