@@ -1,0 +1,4 @@
+pub mod Known
+pub mod Stays
+pub mod Counts
+pub mod Runs

@@ -1,0 +1,40 @@
+ghost use Rattle.std.specs.Prelude.{◌^◌, ◌<◌, length, IfOk};
+ghost use Rattle.ax_journal.specs.declared.reply.Reply.TheVariants.{Done};
+ghost use Rattle.ax_state.specs.Answer.{answer};
+ghost use Rattle.ax_world.specs.Whole.{state_of};
+ghost use Rattle.ax_world.specs.Moves.{IsMove};
+ghost use Rattle.ax_machine.specs.Run.{IsKnown, step};
+
+use ax_journal::{Order, Reply};
+use ax_values::NoMemory;
+use ax_world::{Move, World};
+use std::alloc::Global;
+
+/// What an order of an actor makes of the world, and what it answers. An order that is not built yet changes nothing.
+/// The world itself stays: the edits of the answer are for `World::prepare` and `World::install`. Want of memory is the
+/// only error.
+pub fn step(alloc: Global, world: &World, actor: u32, order: &Order) -> Result<Move, NoMemory>
+    requires known { IsKnown world.now.whole.setting order.now }
+    requires actor { actor < length world.now.whole.setting.actors }
+    requires fence { world.now.whole.fence < 2 ^ 63 }
+    ensures { IfOk result (IsMove world.now.whole (step (state_of world.now.whole) actor order.now)) }
+{
+    let _ = world.clock();
+    match order {
+        Order::Send { .. } => ax_step_log::step(alloc, world, actor, order),
+        Order::Append => ax_step_log::step(alloc, world, actor, order),
+        Order::Claim { .. } => ax_step_claims::step(alloc, world, actor, order),
+        Order::Fetch { .. } => ax_step_work::step(alloc, world, actor, order),
+        Order::Commit => ax_step_work::step(alloc, world, actor, order),
+        Order::ShowRows { .. } => ax_report::step(alloc, world, actor, order),
+        _ => Ok(nothing(alloc, world)),
+    }
+}
+
+/// Changes nothing.
+fn nothing(alloc: Global, world: &World) -> Move
+    ensures { IsMove world.now.whole (answer (state_of world.now.whole) Done) result }
+{
+    let _ = world.clock();
+    Move::without_edits(alloc, Reply::Done)
+}
