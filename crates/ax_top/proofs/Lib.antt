@@ -1,4 +1,1 @@
-pub mod Lines
-pub mod Runs
 pub mod HeadlineLaws
-mod WorkedRows
