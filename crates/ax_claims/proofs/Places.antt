@@ -11,7 +11,7 @@ use Rattle.ax_segments.specs.Segments.{Segment, matches, same_segment, segment_c
 use Rattle.ax_segments.specs.Orders.{segment_cmp_total}
 use Rattle.ax_claims.specs.Rows.{TokenRow, AreRows, row_cmp, row_below, row_at, put_row, place_at, place_if}
 
-rises-above : (x : TokenRow) (xs : List TokenRow) (p : ℕ) (r : TokenRow) → rises row_below (x ∷ xs) ≡ true → slice_get xs p ≡ Some r → x.segment.id + suc p ≤ r.segment.id
+pub rises-above : (x : TokenRow) (xs : List TokenRow) (p : ℕ) (r : TokenRow) → rises row_below (x ∷ xs) ≡ true → slice_get xs p ≡ Some r → x.segment.id + suc p ≤ r.segment.id
 rises-above x [] p r h e = absurd (cc)
 rises-above x (y ∷ ys) zero r h e =
     let below : x.segment.id < y.segment.id = grind (arith, nat_tests, (both (row_below x y) (rises row_below (y ∷ ys)) h).0) in

@@ -51,7 +51,7 @@ are_numbered a i s p (e ∷ es) = (refl, are_numbered a i s (suc p) es)
 are_of : (chain : List Upcaster) (e : Stored) → AreOf e.record_of.aggregate (placed_items chain e)
 are_of chain e = are_numbered e.record_of.aggregate e.index e.record_of.seq 0 (chained chain (event_of_record e.record_of ∷ []))
 
-items-own : (chain : List Upcaster) (a : Name) (es : List Stored) → flat_map (placed_items chain) (filter (is_of a) es) ≡ own a (flat_map (placed_items chain) es)
+pub items-own : (chain : List Upcaster) (a : Name) (es : List Stored) → flat_map (placed_items chain) (filter (is_of a) es) ≡ own a (flat_map (placed_items chain) es)
 items-own chain a [] = refl
 items-own chain a (e ∷ es) = at (same_name e.record_of.aggregate a) refl (items-own chain a es) ∙ sym (filter-append (is_own a) (placed_items chain e) (flat_map (placed_items chain) es))
   where

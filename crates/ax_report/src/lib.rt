@@ -1,6 +1,11 @@
-//! Reports of the state, and the rows that the log alone gives.
+//! Reports: the rows that a processor shows, and the text of a rebuild.
 #![tactic(auto)]
 
+mod line;
+mod names;
+mod rebuilding;
+mod rows;
 mod steps;
 
-pub use steps::{rebuild_text, step};
+pub use rebuilding::rebuild_text;
+pub use steps::step;

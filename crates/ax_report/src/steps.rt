@@ -1,26 +1,50 @@
-ghost use Rattle.std.specs.Prelude.{◌≡◌, ◌<◌, ◌++◌, length, IfOk, OnOk};
+ghost use Rattle.std.specs.Prelude.{◌≡◌, ◌<◌, length, IsTrue, IfOk};
+ghost use Rattle.ax_state.specs.Setting.{is_projection};
+ghost use Rattle.ax_state.specs.Answer.{reported};
 ghost use Rattle.ax_world.specs.Whole.{state_of};
 ghost use Rattle.ax_world.specs.Moves.{IsMove};
-ghost use Rattle.ax_report.specs.Reports.{IsReport, IsDeclared, step, rebuild_text};
+ghost use Rattle.ax_report.specs.Reports.{IsReport, IsDeclared, rows_report, step};
 
-use ax_journal::Order;
+use crate::rows::{add_rows, rules_of};
+use ax_journal::{Lines, Order, Reply};
 use ax_values::NoMemory;
-use ax_world::{Move, World};
+use ax_world::{Edits, Move, World};
 use std::alloc::Global;
 
-/// What a show order answers.
-pub fn step(_alloc: Global, _world: &World, _actor: u32, _order: &Order) -> Result<Move, NoMemory>
-    requires kind { IsReport _order.now }
-    requires processor { IsDeclared _world.now.whole.setting _order.now }
-    requires actor { _actor < length _world.now.whole.setting.actors }
-    ensures { IfOk result (IsMove _world.now.whole (step (state_of _world.now.whole) _actor _order.now)) }
+/// Shows the rows of a projection processor, in the order of their aggregates' names: one for each aggregate of which it
+/// has handled an item. It changes nothing.
+pub fn step(alloc: Global, world: &World, actor: u32, order: &Order) -> Result<Move, NoMemory>
+    requires kind { IsReport order.now }
+    requires processor { IsDeclared world.now.whole.setting order.now }
+    requires actor { actor < length world.now.whole.setting.actors }
+    ensures { IfOk result (IsMove world.now.whole (step (state_of world.now.whole) actor order.now)) }
 {
-    Err(NoMemory)
+    let _ = actor;
+    match order {
+        Order::ShowRows { processor } => {
+            let processor = world.processor(processor);
+            show_rows(alloc, world, processor)
+        }
+        _ => {
+            let _ = world.clock();
+            Ok(Move::without_edits(alloc, Reply::Done))
+        }
+    }
 }
 
-/// Adds the rows of each projection that the log alone gives.
-pub fn rebuild_text(_alloc: Global, _world: &World, _out: &mut Vec<u8>) -> Result<(), NoMemory>
-    ensures { OnOk result (_out.new.items ≡ _out.old.items ++ rebuild_text (state_of _world.now.whole)) }
+/// The report of a processor's rows.
+fn show_rows(alloc: Global, world: &World, processor: u32) -> Result<Move, NoMemory>
+    requires { IsTrue (is_projection world.now.whole.setting processor) }
+    ensures { IfOk result (IsMove world.now.whole (reported (state_of world.now.whole) (rows_report (state_of world.now.whole) processor))) }
 {
-    Err(NoMemory)
+    let _ = world.clock();
+    let rules = rules_of(world, processor);
+    let mut report = Lines::new(alloc);
+    add_rows(alloc, rules.fields(), world.table(processor), &mut report)?;
+    let count = report.parts().len() as u64;
+    Ok(Move {
+        edits: Edits::new(alloc),
+        reply: Reply::Lines { count },
+        report,
+    })
 }

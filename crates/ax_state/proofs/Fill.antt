@@ -93,7 +93,7 @@ found-covers cells (x ∷ xs) h i all e = at (matches x.segment h) (found-covers
     at false ih = ih
 
 -- what is covered stays
-fills-covered : (N : Record → Type 0) (cells later : List Cell) (ps : List Portion) → Fills N cells later → AreTokens cells ps → covered_events ps (events later) ≡ covered_events ps (events cells)
+pub fills-covered : (N : Record → Type 0) (cells later : List Cell) (ps : List Portion) → Fills N cells later → AreTokens cells ps → covered_events ps (events later) ≡ covered_events ps (events cells)
 fills-covered N cells later ps f all = fills-filter N (λ e. covered_by ps (hash_of e.record_of.aggregate) e.index) 0 cells later f
     (λ i is e n. let at : 0 + i ≡ i = omega arith in subst (λ (j : ℕ). covered_by ps (hash_of e.aggregate) j ≡ false) (sym at) (found-covers cells ps (hash_of e.aggregate) i all is))
 
@@ -305,6 +305,7 @@ standing-fills a i rs cells f ps b t all h = record {
     added = h.new.added;
     bound = h.new.bound;
     settled = All-map (λ j. IsTrue (is_settled cells j)) (λ j. IsTrue (is_settled later j)) (λ j. filled-settled (Own a) cells later j g) h.new.added h.new.settled;
+    within = h.new.within;
     new_is = h.new.new_is;
   };
   token = token-fills (Own a) cells later g b.segment.mask b.new h.token;

@@ -75,7 +75,7 @@ quiet-all k (Cell.Reserved a s w t ∷ cs) h = quiet-all (suc k) cs h.1
 quiet-all k (Cell.Void ∷ cs) h = quiet-all (suc k) cs h.1
 quiet-all k (Cell.Event r ∷ cs) h = absurd h.0
 
-grows-events : (k : ℕ) (cells later : List Cell) → Grows cells later → events_from k later ≡ events_from k cells
+pub grows-events : (k : ℕ) (cells later : List Cell) → Grows cells later → events_from k later ≡ events_from k cells
 grows-events k [] later g = quiet-all k later g
 grows-events k (c ∷ cs) [] g = absurd g
 grows-events k (c ∷ cs) (d ∷ ds) g = step-events k c d cs ds g.0 (grows-events (suc k) cs ds g.1)
@@ -151,6 +151,7 @@ standing-grows cells later g ps b t h = record {
     added = h.new.added;
     bound = h.new.bound;
     settled = All-map (λ i. IsTrue (is_settled cells i)) (λ i. IsTrue (is_settled later i)) (λ i. grows-settled cells later i g) h.new.added h.new.settled;
+    within = h.new.within;
     new_is = h.new.new_is;
   };
   token = token-grows cells later g b.segment.mask b.new h.token;

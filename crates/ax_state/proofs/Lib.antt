@@ -4,3 +4,4 @@ pub mod Grow
 pub mod Fill
 pub mod Puts
 pub mod Starting
+pub mod Prefixes

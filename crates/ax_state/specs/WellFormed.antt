@@ -1,5 +1,5 @@
 -- What holds of every state that can be reached. Each part takes the values that it reads: events, portions, and not cells and rows.
-use Rattle.std.specs.Prelude.{◌≡◌, ℕ, ◌+◌, ◌^◌, ◌<◌, ◌≤◌, ◌==◌, Bool, true, false, not, ◌&&◌, ◌||◌, List, [], ◌∷◌, map, length, filter, Option, Some, None, IsOk, IsTrue, IfSome, nat_lt, nat_le, slice_get}
+use Rattle.std.specs.Prelude.{◌≡◌, ℕ, ◌+◌, ◌^◌, ◌<◌, ◌≤◌, ◌==◌, Bool, true, false, not, ◌&&◌, ◌||◌, List, [], ◌∷◌, map, length, filter, Option, Some, None, IsOk, IsTrue, IfSome, max, nat_lt, nat_le, slice_get}
 use Rattle.std.specs.List.{AllByRecursion, list_all}
 use Rattle.ax_values.specs.Grammar.{Name, ItemName}
 use Rattle.ax_values.specs.Words.{rises}
@@ -161,14 +161,15 @@ pub record IsSeat (fence : ℕ) (shelves : List Shelf) (actor : Name) (desk : De
 
 -- the token with a set of indexes below a bound added to every part but the first of a replay
 abbrev pub with_added : (ℕ → Bool) → ℕ → Token → Token
-with_added test n (plain p) = plain (plain_of (λ i. has p i || test i) n)
+with_added test n (plain p) = plain (plain_of (λ i. has p i || test i) (max p.next n))
 with_added test n (merged l u) = merged (with_added test n l) (with_added test n u)
-with_added test n (replay r c) = replay r (plain_of (λ i. has c i || test i) n)
+with_added test n (replay r c) = replay r (plain_of (λ i. has c i || test i) (max c.next n))
 
 -- the new token is the old one with settled cells added, collapsed
 pub record Advanced (cells : List Cell) (old new : Token) : Type 0 where
   pub added : List ℕ
   pub bound : ℕ
+  pub within : AllByRecursion (λ i. i < bound) added
   pub settled : AllByRecursion (λ i. IsTrue (is_settled cells i)) added
   pub new_is : new ≡ collapsed (with_added (contains added) bound old)
 

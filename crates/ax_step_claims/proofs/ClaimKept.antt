@@ -21,7 +21,7 @@ use Rattle.ax_state.proofs.Puts.{found-row, portions-put, fence_count-put, fence
 use Rattle.ax_step_claims.specs.Claiming.{claim, claimed, claimed_reply, granted, is_held_at, let_go, hold_fence}
 
 -- the row gets a fresh fence and an owner, and the desk the fence
-kept-granted : (m : State) (actor p : ℕ) (s : Segment) (shelf : Shelf) (r : TokenRow) → slice_get m.shelves p ≡ Some shelf → row_at s shelf.rows ≡ Some r → IsWellFormed m
+pub kept-granted : (m : State) (actor p : ℕ) (s : Segment) (shelf : Shelf) (r : TokenRow) → slice_get m.shelves p ≡ Some shelf → row_at s shelf.rows ≡ Some r → IsWellFormed m
     → IsWellFormed (record m {
       fence = suc m.fence;
       shelves = slice_set m.shelves p (record shelf { rows = put_row (owned r (Some (actor_name m actor)) m.clock (suc m.fence)) shelf.rows });

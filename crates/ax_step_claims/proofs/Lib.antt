@@ -1,1 +1,2 @@
 pub mod ClaimKept
+mod Answered

@@ -1,5 +1,5 @@
 -- Steps on token rows: claim.
-use Rattle.std.specs.Prelude.{ℕ, suc, ◌<◌, ◌==◌, Bool, not, ◌&&◌, List, [], ◌∷◌, ◌++◌, length, filter, Option, Some, None, if◌then◌else◌}
+use Rattle.std.specs.Prelude.{ℕ, suc, ◌<◌, ◌==◌, Bool, not, ◌&&◌, List, [], ◌∷◌, ◌++◌, length, filter, Option, Some, None, IsTrue, is_some, slice_get, if◌then◌else◌}
 use Rattle.ax_values.specs.Grammar.{Name}
 use Rattle.ax_segments.specs.Segments.{Segment, same_segment}
 use Rattle.ax_claims.specs.Rows.{TokenRow, row_at, put_row}
@@ -7,6 +7,7 @@ use Rattle.ax_claims.specs.Changes.{is_claimed, owned}
 use Rattle.ax_state.specs.Setting.{processor_number}
 use Rattle.ax_state.specs.State.{State, Held, desk_at, shelf_at, with_desk, with_rows, with_fence, actor_name}
 use Rattle.ax_state.specs.Answer.{Answer, answer}
+use Rattle.ax_claims.specs.declared.refused.Refused.{Refused}
 use Rattle.ax_journal.specs.declared.order.Order.{Order}
 use Rattle.ax_journal.specs.declared.reply.Reply.{Reply}
 use Rattle.ax_sheet.specs.declared.parts.Processor.{Processor}
@@ -42,6 +43,28 @@ claimed m actor p s (Some r) = if is_claimed (actor_name m actor) m.clock r then
 
 abbrev pub claim : State → ℕ → Name → Segment → Answer
 claim m actor name s = claimed m actor (processor_number m.setting.processors name) s (row_at s (shelf_at m (processor_number m.setting.processors name)).rows)
+
+-- ---- refusals
+
+abbrev pub found_reply : Option TokenRow → Reply
+found_reply None = Reply.NoSegment
+found_reply (Some r) = claimed_reply r r.owner
+
+-- the reply to a refusal, which names one of the rows by its place
+abbrev pub refused_reply : List TokenRow → Refused → Reply
+refused_reply rows Refused.NoSegment = Reply.NoSegment
+refused_reply rows (Refused.Claimed place) = found_reply (slice_get rows place)
+refused_reply rows (Refused.Stale held found) = Reply.Stale held found
+
+abbrev pub HasOwner : Option TokenRow → Type 0
+HasOwner None = ⊥
+HasOwner (Some r) = IsTrue (is_some r.owner)
+
+-- a row that is named has an owner
+abbrev pub NamesOwned : List TokenRow → Refused → Type 0
+NamesOwned rows Refused.NoSegment = Unit {0}
+NamesOwned rows (Refused.Claimed place) = HasOwner (slice_get rows place)
+NamesOwned rows (Refused.Stale held found) = Unit {0}
 
 -- ---- steps
 

@@ -3,18 +3,29 @@ ghost use Rattle.ax_world.specs.Whole.{state_of};
 ghost use Rattle.ax_world.specs.Moves.{IsMove};
 ghost use Rattle.ax_step_claims.specs.Claiming.{IsClaiming, IsDeclared, step};
 
-use ax_journal::Order;
+use crate::claim::claim_segment;
+use ax_journal::{Order, Reply};
 use ax_values::NoMemory;
 use ax_world::{Move, World};
 use std::alloc::Global;
 
-/// What a claim makes of the world.
-pub fn step(_alloc: Global, _world: &World, _actor: u32, _order: &Order) -> Result<Move, NoMemory>
-    requires kind { IsClaiming _order.now }
-    requires processor { IsDeclared _world.now.whole.setting.processors _order.now }
-    requires actor { _actor < length _world.now.whole.setting.actors }
-    requires fence { _world.now.whole.fence < 2 ^ 63 }
-    ensures { IfOk result (IsMove _world.now.whole (step (state_of _world.now.whole) _actor _order.now)) }
+/// A claim gives the actor the segment under a fresh fence. 26 comes exactly where there is no row of the segment; 27
+/// exactly where it has another owner whose claim was made or extended at most 10,000 ms ago.
+pub fn step(alloc: Global, world: &World, actor: u32, order: &Order) -> Result<Move, NoMemory>
+    requires kind { IsClaiming order.now }
+    requires processor { IsDeclared world.now.whole.setting.processors order.now }
+    requires actor { actor < length world.now.whole.setting.actors }
+    requires fence { world.now.whole.fence < 2 ^ 63 }
+    ensures { IfOk result (IsMove world.now.whole (step (state_of world.now.whole) actor order.now)) }
 {
-    Err(NoMemory)
+    match order {
+        Order::Claim { processor, segment } => {
+            let processor = world.processor(processor);
+            claim_segment(alloc, world, actor, processor, *segment)
+        }
+        _ => {
+            let _ = world.clock();
+            Ok(Move::without_edits(alloc, Reply::Done))
+        }
+    }
 }

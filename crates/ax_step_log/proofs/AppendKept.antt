@@ -31,7 +31,7 @@ use Rattle.ax_journal.specs.declared.reply.Reply.{Reply}
 -- ---- a conflict
 
 -- a desk lets its reservation go
-kept-released : (m : State) (actor : ℕ) (o : Option Reservation) → IsWellFormed m → IsWellFormed (with_reservation actor None (with_cells (released o m.cells) m))
+pub kept-released : (m : State) (actor : ℕ) (o : Option Reservation) → IsWellFormed m → IsWellFormed (with_reservation actor None (with_cells (released o m.cells) m))
 kept-released m actor o h = kept-unreserved (with_cells later m) actor (kept-grown m later g ordered (reserved-released m.clock o m.cells h.clock.reserved) h)
   where
     later : List Cell
@@ -81,16 +81,38 @@ own-of : (a : Name) (n : ℕ) (rs : List Record) → AreOf a n rs → AllByRecur
 own-of a n [] h = tt
 own-of a n (r ∷ rs) h = (h.0, own-of a (suc n) rs h.2)
 
+-- what holds of the reservation of a desk
+pub holds : (m : State) (actor : ℕ) (d : Desk) (r : Reservation) → slice_get m.desks actor ≡ Some d → d.reservation ≡ Some r → IsWellFormed m → IsReservation m.cells (name_at m.setting.actors actor) r
+holds m actor d r desk has h = subst (λ (o : Option Reservation). IfSome o (IsReservation m.cells (name_at m.setting.actors actor))) has
+    (AllFrom-get (λ k d. HoldsCells m.cells (name_at m.setting.actors k) d) 0 m.desks actor d h.reserved.each desk actor (omega arith))
+
+pub within-held : (cells : List Cell) (actor : Name) (r : Reservation) → IsReservation cells actor r → r.first + length r.records ≤ length cells
+within-held cells actor r h =
+    let some : 0 < length r.records = h.some in
+    let last : r.first + (length r.records - 1) < length cells = held-within (aggregate_of r.records) r.first_seq actor cells (r.first + (length r.records - 1)) (h.held (length r.records - 1) (omega arith)) in omega arith
+
+pub number-held : (cells : List Cell) (actor : Name) (r : Reservation) → IsReservation cells actor r → number_of r.records ≡ r.first_seq
+number-held cells actor r h = first-number (aggregate_of r.records) r.first_seq r.records h.some h.numbered
+
+pub takes-held : (cells : List Cell) (actor : Name) (r : Reservation) → IsReservation cells actor r → TakesKept cells r.first r.records
+takes-held cells actor r h = record {
+  numbered = subst (λ (n : ℕ). AreOf (aggregate_of r.records) n r.records) (sym number) h.numbered;
+  kept = λ k lt. subst (λ (n : ℕ). IsKeptFor (aggregate_of r.records) n (slice_get cells (r.first + k))) (sym number)
+      (held-kept (aggregate_of r.records) r.first_seq actor (slice_get cells (r.first + k)) (h.held k lt));
+}
+  where
+    number : number_of r.records ≡ r.first_seq
+    number = number-held cells actor r h
+
 -- what an append takes of a desk whose reservation has no void cell and goes on with the stream
-record IsTaken (m : State) (actor : ℕ) (d : Desk) (r : Reservation) : Type 0 where
-  desk : slice_get m.desks actor ≡ Some d
-  has : d.reservation ≡ Some r
-  clear : void_among m.cells r.first r.records ≡ None
-  next : length_of (aggregate_of r.records) m.cells ≡ r.first_seq
+pub record IsTaken (m : State) (actor : ℕ) (d : Desk) (r : Reservation) : Type 0 where
+  pub desk : slice_get m.desks actor ≡ Some d
+  pub has : d.reservation ≡ Some r
+  pub clear : void_among m.cells r.first r.records ≡ None
+  pub next : length_of (aggregate_of r.records) m.cells ≡ r.first_seq
 
 holds-taken : (m : State) (actor : ℕ) (d : Desk) (r : Reservation) → IsTaken m actor d r → IsWellFormed m → IsReservation m.cells (name_at m.setting.actors actor) r
-holds-taken m actor d r x h = subst (λ (o : Option Reservation). IfSome o (IsReservation m.cells (name_at m.setting.actors actor))) x.has
-    (AllFrom-get (λ k d. HoldsCells m.cells (name_at m.setting.actors k) d) 0 m.desks actor d h.reserved.each x.desk actor (omega arith))
+holds-taken m actor d r x h = holds m actor d r x.desk x.has h
 
 reserved-taken : (m : State) (actor : ℕ) (d : Desk) (r : Reservation) → IsTaken m actor d r → IsWellFormed m → (k : ℕ) → k < length r.records
     → (t : ℕ) × (slice_get m.cells (r.first + k) ≡ Some (Cell.Reserved (aggregate_of r.records) r.first_seq (name_at m.setting.actors actor) t))
@@ -98,25 +120,22 @@ reserved-taken m actor d r x h k lt =
     still-reserved (aggregate_of r.records) r.first_seq (name_at m.setting.actors actor) (slice_get m.cells (r.first + k)) ((holds-taken m actor d r x h).held k lt) (not-void r.first r.first (length r.records) (r.first + k) m.cells x.clear (omega arith) (omega arith))
 
 within-taken : (m : State) (actor : ℕ) (d : Desk) (r : Reservation) → IsTaken m actor d r → IsWellFormed m → r.first + length r.records ≤ length m.cells
-within-taken m actor d r x h =
-    let holds = holds-taken m actor d r x h in
-    let some : 0 < length r.records = holds.some in
-    let last : r.first + (length r.records - 1) < length m.cells = held-within (aggregate_of r.records) r.first_seq (name_at m.setting.actors actor) m.cells (r.first + (length r.records - 1)) (holds.held (length r.records - 1) (omega arith)) in omega arith
+within-taken m actor d r x h = within-held m.cells (name_at m.setting.actors actor) r (holds-taken m actor d r x h)
 
-fill-taken : (m : State) (actor : ℕ) (d : Desk) (r : Reservation) → IsTaken m actor d r → IsWellFormed m → IsFill (aggregate_of r.records) r.first r.records m.cells
+pub fill-taken : (m : State) (actor : ℕ) (d : Desk) (r : Reservation) → IsTaken m actor d r → IsWellFormed m → IsFill (aggregate_of r.records) r.first r.records m.cells
 fill-taken m actor d r x h = record {
-  own = own-of (aggregate_of r.records) r.first_seq r.records holds.numbered;
+  own = own-of (aggregate_of r.records) r.first_seq r.records holds_cells.numbered;
   ready = λ k lt. rw (reserved-taken m actor d r x h k lt).1 refl;
   within = (let le : r.first + length r.records ≤ length m.cells = within-taken m actor d r x h in omega arith);
   last = right.before (sym x.next);
 }
   where
-    holds : IsReservation m.cells (name_at m.setting.actors actor) r
-    holds = holds-taken m actor d r x h
+    holds_cells : IsReservation m.cells (name_at m.setting.actors actor) r
+    holds_cells = holds-taken m actor d r x h
 
     right : IsReservedRight m.cells r.first (aggregate_of r.records) r.first_seq
     right =
-        let c = reserved-taken m actor d r x h 0 holds.some in
+        let c = reserved-taken m actor d r x h 0 holds_cells.some in
         let at : r.first + 0 ≡ r.first = omega arith in
         subst (λ (i : ℕ). IsReservedRight m.cells i (aggregate_of r.records) r.first_seq) at (h.log.reserved (r.first + 0) (aggregate_of r.records) r.first_seq (name_at m.setting.actors actor) c.0 c.1)
 
@@ -124,24 +143,20 @@ ordered-taken : (m : State) (actor : ℕ) (d : Desk) (r : Reservation) → IsTak
 ordered-taken m actor d r x h =
     subst IsOrdered (put_all-puts_at (map Cell.Event r.records) r.first m.cells (let le : r.first + length r.records ≤ length m.cells = inside in omega arith)) (IsOrdered-put_all (puts_at r.first (map Cell.Event r.records)) m.cells can h.log)
   where
-    holds : IsReservation m.cells (name_at m.setting.actors actor) r
-    holds = holds-taken m actor d r x h
+    holds_cells : IsReservation m.cells (name_at m.setting.actors actor) r
+    holds_cells = holds-taken m actor d r x h
 
     inside : r.first + length r.records ≤ length m.cells
     inside = within-taken m actor d r x h
 
     number : number_of r.records ≡ r.first_seq
-    number = first-number (aggregate_of r.records) r.first_seq r.records holds.some holds.numbered
+    number = number-held m.cells (name_at m.setting.actors actor) r holds_cells
 
     takes : TakesKept m.cells r.first r.records
-    takes = record {
-      numbered = subst (λ (n : ℕ). AreOf (aggregate_of r.records) n r.records) (sym number) holds.numbered;
-      kept = λ k lt. subst (λ (n : ℕ). IsKeptFor (aggregate_of r.records) n (slice_get m.cells (r.first + k))) (sym number)
-          (held-kept (aggregate_of r.records) r.first_seq (name_at m.setting.actors actor) (slice_get m.cells (r.first + k)) (holds.held k lt));
-    }
+    takes = takes-held m.cells (name_at m.setting.actors actor) r holds_cells
 
     can : CanPutAll m.cells (puts_at r.first (map Cell.Event r.records))
-    can = can_append m.cells r.first r.records holds.small holds.some (inl takes)
+    can = can_append m.cells r.first r.records holds_cells.small holds_cells.some (inl takes)
         (record { clear = x.clear; next = x.next ∙ sym number; room = (let le : r.first + length r.records ≤ length m.cells = inside in let size : length m.cells ≤ max_cells = h.log.size in omega arith) }) h.log
 
 -- ---- the records in the log
@@ -159,7 +174,7 @@ put-outside (suc x) (suc i) new (c ∷ cs) le out = put-outside x i new cs (omeg
 within-test : (x first n : ℕ) → first ≤ x → x < first + n → (nat_le first x && nat_lt x (first + n)) ≡ true
 within-test x first n h k = grind (arith, nat_tests)
 
-kept-taken : (m : State) (actor : ℕ) (d : Desk) (r : Reservation) → IsTaken m actor d r → IsWellFormed m → IsWellFormed (with_reservation actor None (with_cells (put_cells r.first (map Cell.Event r.records) m.cells) m))
+pub kept-taken : (m : State) (actor : ℕ) (d : Desk) (r : Reservation) → IsTaken m actor d r → IsWellFormed m → IsWellFormed (with_reservation actor None (with_cells (put_cells r.first (map Cell.Event r.records) m.cells) m))
 kept-taken m actor d r t h = record {
   sheet = h.sheet;
   log = ordered-taken m actor d r t h;

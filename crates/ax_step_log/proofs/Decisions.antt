@@ -3,7 +3,7 @@ use Rattle.std.specs.Prelude.{◌≡◌, ℕ, suc, ◌+◌, ◌<◌, ◌≤◌, 
 use Rattle.std.specs.List.{list_all}
 use Rattle.std.specs.Ordering.{match_ordering}
 use Rattle.std.specs.declared.cmp.Ordering.TheVariants.{Less, Equal, Greater}
-use Rattle.std.proofs.Common.{refl, subst, arith}
+use Rattle.std.proofs.Common.{refl, sym, subst, arith}
 use Rattle.std.proofs.lemmas.List.{length-map}
 use Rattle.std.proofs.lemmas.Bool.Decides.{nat_tests}
 use Rattle.ax_values.specs.Grammar.{Name}
@@ -16,6 +16,7 @@ use Rattle.ax_sheet.specs.Sheet.{Sheet, command_named, command_fits, are_parts, 
 use Rattle.ax_sheet.specs.Decision.{decided_by, decision}
 use Rattle.ax_log.specs.Order.{max_fields}
 use Rattle.ax_state.specs.WellFormed.{AreCommands}
+use Rattle.ax_step_log.specs.Made.{few_fields, EventsFit, DecidedFits}
 use Rattle.ax_values.specs.declared.value.Field.{Field}
 use Rattle.ax_values.specs.declared.value.Value.{Value}
 use Rattle.ax_upcast.specs.declared.event.Event.{Event}
@@ -24,14 +25,6 @@ use Rattle.ax_upcast.specs.declared.event.GivenField.{GivenField}
 use Rattle.ax_sheet.specs.declared.parts.Command.{Command}
 use Rattle.ax_sheet.specs.declared.parts.NamedCommand.{NamedCommand}
 use Rattle.ax_sheet.specs.declared.decision.Decided.{Decided}
-
-abbrev pub few_fields : Event → Bool
-few_fields e = nat_le (length e.payload) max_fields
-
-pub record EventsFit (es : List Event) : Type 0 where
-  pub some : 0 < length es
-  pub few : length es ≤ 8
-  pub fields : list_all few_fields es ≡ true
 
 -- ---- the fields of an event
 
@@ -101,3 +94,7 @@ found-fits n name c (x ∷ xs) h e = at (same_name x.name name) e (λ k. found-f
 
 pub command-fits : (sheet : Sheet) (name : Name) (c : Command) → AreCommands sheet → command_named sheet name ≡ Some c → command_fits (length sheet.aggregate.fields) c ≡ true
 command-fits sheet name c h e = found-fits (length sheet.aggregate.fields) name c sheet.commands h e
+
+pub decided-fits : (n : ℕ) (c : Command) (args : Payload) (row : Row) (d : Decided) → command_fits n c ≡ true → d ≡ decision c args row → DecidedFits d
+decided-fits n c args row (Decided.Guard g) h e = tt
+decided-fits n c args row (Decided.Events es) h e = decision-fits n c args row es h (sym e)

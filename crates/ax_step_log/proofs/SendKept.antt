@@ -24,7 +24,8 @@ use Rattle.ax_state.proofs.Lists.{AllFrom-set, count-set, count-none}
 use Rattle.ax_state.proofs.Desks.{kept-reservation}
 use Rattle.ax_state.proofs.Grow.{Grows, held-within, grows-append, ordered-grows, kept-grown}
 use Rattle.ax_step_log.specs.Logging.{send, sent_by, sent_decided, sent_events, with_reservation, released, reserved_cells, reservation_of, as_records}
-use Rattle.ax_step_log.proofs.Decisions.{EventsFit, few_fields, decision-fits, command-fits}
+use Rattle.ax_step_log.specs.Made.{EventsFit, few_fields}
+use Rattle.ax_step_log.proofs.Decisions.{decision-fits, command-fits}
 use Rattle.ax_step_log.proofs.Released.{grows-released, length-released, reserved-released}
 use Rattle.ax_values.specs.declared.cell.Cell.{Cell}
 use Rattle.ax_upcast.specs.declared.event.Event.{Event}
@@ -34,7 +35,7 @@ use Rattle.ax_journal.specs.declared.reply.Reply.{Reply}
 
 -- ---- the cells
 
-quiet-replicate : (n : ℕ) (a : Name) (s : ℕ) (w : Name) (t : ℕ) → AllByRecursion IsQuiet (replicate n (Cell.Reserved a s w t))
+pub quiet-replicate : (n : ℕ) (a : Name) (s : ℕ) (w : Name) (t : ℕ) → AllByRecursion IsQuiet (replicate n (Cell.Reserved a s w t))
 quiet-replicate zero a s w t = tt
 quiet-replicate (suc n) a s w t = (tt, quiet-replicate n a s w t)
 
@@ -109,7 +110,7 @@ all-beyond cells actors n (d ∷ ds) i h past = (beyond cells (name_at actors n)
 
 -- ---- the whole
 
-kept-reserved : (m : State) (actor : ℕ) (a : Name) (es : List Event) → EventsFit es → length m.cells + length es ≤ max_cells → IsWellFormed m
+pub kept-reserved : (m : State) (actor : ℕ) (a : Name) (es : List Event) → EventsFit es → length m.cells + length es ≤ max_cells → IsWellFormed m
     → IsWellFormed (with_reservation actor (Some (reservation_of m a es)) (with_cells (reserved_cells m actor a (length es)) m))
 kept-reserved m actor a es fit room h = kept-reservation (with_cells later m) actor (Some r) (record { each = each; apart = apart }) grown
   where

@@ -136,13 +136,13 @@ step m actor (Order.Fetch name s most) = fetch m actor name s most
 step m actor Order.Commit = commit m actor
 step m actor o = answer m Reply.Done
 
--- fetch or commit
+-- the orders of this crate
 abbrev pub IsWork : Order → Type 0
 IsWork (Order.Fetch name s most) = Unit {0}
 IsWork Order.Commit = Unit {0}
 IsWork o = ⊥
 
--- the processor that a fetch names is a projection
+-- the processor that a fetch names is one of a projection
 abbrev pub IsDeclared : Setting → Order → Type 0
 IsDeclared setting (Order.Fetch name s most) = IsTrue (is_projection setting (processor_number setting.processors name))
 IsDeclared setting o = Unit {0}

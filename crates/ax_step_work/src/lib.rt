@@ -1,6 +1,10 @@
 //! Steps on batches: a fetch takes what a segment has not covered, and a commit folds it into the rows.
 #![tactic(auto)]
 
+mod bound;
+mod committing;
+mod fetching;
+mod held;
 mod steps;
 
 pub use steps::step;

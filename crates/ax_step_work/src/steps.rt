@@ -3,17 +3,43 @@ ghost use Rattle.ax_world.specs.Whole.{state_of};
 ghost use Rattle.ax_world.specs.Moves.{IsMove};
 ghost use Rattle.ax_step_work.specs.Working.{IsWork, IsDeclared, step};
 
+use crate::committing::commit;
+use crate::fetching::fetch;
 use ax_journal::Order;
 use ax_values::NoMemory;
 use ax_world::{Move, World};
 use std::alloc::Global;
 
-/// What a fetch or a commit makes of the world.
-pub fn step(_alloc: Global, _world: &World, _actor: u32, _order: &Order) -> Result<Move, NoMemory>
-    requires kind { IsWork _order.now }
-    requires processor { IsDeclared _world.now.whole.setting _order.now }
-    requires actor { _actor < length _world.now.whole.setting.actors }
-    ensures { IfOk result (IsMove _world.now.whole (step (state_of _world.now.whole) _actor _order.now)) }
+/// What a fetch or a commit of an actor makes of the world, and what it answers.
+///
+/// Both are for the segment whose fence the actor's desk holds. A fetch answers NoSegment where neither a row nor a held
+/// fence is there, NotHeld where there is a row and no held fence, and Stale, with both fences, where the row has another
+/// one, or is gone: these change nothing. Else the reply is Fetched, with the number of records: the desk holds the batch
+/// of the segment's next events, at most so many, in place of an older one.
+///
+/// A commit answers NoBatch where the desk holds none. Stale comes where the batch's row is gone or has another fence: the
+/// batch is given up. NotApplied, with the item and the cause, comes for the first item of the batch that does not apply:
+/// this changes nothing. Else the reply is Committed, with the number of items: the rows are those behind the items, the
+/// segment's token is the batch's, at the clock's time, and the desk holds no batch.
+///
+/// The world itself stays: the edits of the answer are for `World::prepare` and `World::install`. Want of memory is the only
+/// error.
+pub fn step(alloc: Global, world: &World, actor: u32, order: &Order) -> Result<Move, NoMemory>
+    requires kind { IsWork order.now }
+    requires processor { IsDeclared world.now.whole.setting order.now }
+    requires actor { actor < length world.now.whole.setting.actors }
+    ensures { IfOk result (IsMove world.now.whole (step (state_of world.now.whole) actor order.now)) }
 {
-    Err(NoMemory)
+    match order {
+        Order::Fetch {
+            processor,
+            segment,
+            max,
+        } => {
+            let processor = world.processor(processor);
+            fetch(alloc, world, actor, processor, *segment, *max)
+        }
+        Order::Commit => commit(alloc, world, actor),
+        _ => unreachable!(),
+    }
 }

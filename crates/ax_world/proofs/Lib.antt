@@ -3,3 +3,4 @@ pub mod Rooms
 pub mod Segments
 pub mod Starts
 pub mod Moves
+pub mod Shelves

@@ -3,6 +3,7 @@
 
 mod desk;
 mod edit;
+mod named;
 mod parts;
 mod place;
 mod start;

@@ -1,11 +1,12 @@
 ghost use Rattle.std.specs.Prelude.{◌≡◌, ◌+◌, ◌^◌, ◌<◌, ◌≤◌, ◌*◌, [], length, map, slice_get, IsTrue, IfOk, OnOk};
 ghost use Rattle.std.specs.Option.{option_copied};
 ghost use Rattle.ax_state.specs.Every.{count};
-ghost use Rattle.ax_state.specs.Setting.{IsSetting};
+ghost use Rattle.ax_state.specs.Setting.{IsSetting, processor_number};
 ghost use Rattle.ax_world.specs.Whole.{starting, place_at};
 ghost use Rattle.ax_world.specs.Made.{made_all};
 ghost use Rattle.ax_world.specs.Fits.{IsWorld, Fits, HasRoom};
 
+use crate::named::number_of;
 use crate::parts::Parts;
 use crate::start::{empty_desks, first_places, row_count};
 use crate::{Desk, Edits};
@@ -81,6 +82,13 @@ impl World {
         ensures { result.now ≡ self.now.whole.setting.processors }
     {
         &self.parts.processors
+    }
+
+    /// The number of the processor of this name; how many there are, where none has it.
+    pub fn processor(&self, name: &Name) -> u32
+        ensures { result ≡ processor_number self.now.whole.setting.processors name.now }
+    {
+        number_of(self.parts.processors.parts(), name)
     }
 
     /// The actors, in the order of the head.

@@ -1,0 +1,200 @@
+-- The rows that a world keeps, and those of a rebuild, are the rows that the definitions show.
+use Rattle.std.proofs.Common.{◌≡◌, ℕ, zero, suc, ◌+◌, ◌<◌, Bool, true, false, not, ◌||◌, List, [], ◌∷◌, ◌++◌, map, length, filter, flat_map, take, drop, Option, Some, None, Result, Ok, Err, OnOk, IsTrue, is_some, nat_lt, slice_get, get_or, if◌then◌else◌, refl, sym, ap, ◌∙◌, subst, arith, append_assoc}
+use Rattle.std.specs.List.{list_any, list_all}
+use Rattle.std.proofs.lemmas.List.{append-nil}
+use Rattle.std.proofs.lemmas.Bool.Decides.{nat_tests}
+use Rattle.ax_values.specs.Grammar.{Name, Line}
+use Rattle.ax_values.specs.Words.{same_name}
+use Rattle.ax_values.proofs.Options.{both}
+use Rattle.ax_log.specs.Log.{Stored, events, stream_in, option_is}
+use Rattle.ax_rules.specs.Rules.{Rules, start_row, row_or}
+use Rattle.ax_projections.specs.Items.{Placed, placed_items, all_items, items_of, aggregate_of}
+use Rattle.ax_projections.specs.Table.{Entry, look_up}
+use Rattle.ax_projections.specs.Rebuild.{rebuilt, first_names, folded}
+use Rattle.ax_projections.proofs.NameLaws.{name-sym, any-firsts, found, missing}
+use Rattle.ax_projections.proofs.RebuildLaws.{own, is_own, items-own}
+use Rattle.ax_state.specs.Every.{option_or}
+use Rattle.ax_state.specs.Setting.{Setting, IsSetting, is_projection, processor_at, projection_at, no_processor}
+use Rattle.ax_state.specs.State.{State, Shelf, empty_shelf, shelf_at}
+use Rattle.ax_state.specs.Positions.{rows_of, shown_at, rebuilt_at, rebuilt_rows, position_in, covered_in}
+use Rattle.ax_state.specs.Portions.{portions, covered_events}
+use Rattle.ax_state.specs.WellFormed.{IsPlace, CoverPrefix}
+use Rattle.ax_state.specs.Answer.{reported}
+use Rattle.ax_state.proofs.Lists.{AllFrom-get}
+use Rattle.ax_state.proofs.Prefixes.{same-position, same-row}
+use Rattle.ax_sheet.specs.Sheet.{Sheet, projection_named, saga_named}
+use Rattle.ax_sheet.specs.Declarations.{is_of_sheet}
+use Rattle.ax_world.specs.Whole.{Whole, empty_place, state_of, place_at}
+use Rattle.ax_world.specs.Fits.{IsWorld, IsTable, folded_row, row_if}
+use Rattle.ax_world.specs.Moves.{IsMove}
+use Rattle.ax_world.proofs.Shelves.{get-at, shelf-place, place-declared}
+use Rattle.ax_world.specs.declared.edit.Move.{Move}
+use Rattle.ax_report.specs.Reports.{listed, line_of, row_line, processor_line, rows_report, rebuilt_lines, rebuild_from, unless_saga, AreNames, AddsRows}
+use Rattle.ax_report.proofs.Listed.{row_shown, in-order}
+use Rattle.ax_values.specs.declared.cell.Cell.{Cell}
+use Rattle.ax_upcast.specs.declared.upcaster.Upcaster.{Upcaster}
+use Rattle.ax_sheet.specs.declared.parts.Processor.{Processor}
+use Rattle.ax_journal.specs.declared.reply.Reply.{Reply}
+
+-- ---- rules of a processor
+
+rules-among : (sheet : Sheet) (qs : List Processor) (p : ℕ) → list_all (is_of_sheet sheet) qs ≡ true → option_is (λ q. not q.saga) (slice_get qs p) ≡ true → is_some (projection_named sheet (option_or no_processor (slice_get qs p)).name) ≡ true
+rules-among sheet [] p h k = absurd (cc)
+rules-among sheet (q ∷ qs) zero h k = at q.saga k (both (is_of_sheet sheet q) (list_all (is_of_sheet sheet) qs) h).0
+  where
+    at : (b : Bool) → not b ≡ true → (if b then is_some (saga_named sheet q.name) else is_some (projection_named sheet q.name)) ≡ true → is_some (projection_named sheet q.name) ≡ true
+    at true k h = absurd (cc)
+    at false k h = h
+rules-among sheet (q ∷ qs) (suc p) h k = rules-among sheet qs p (both (is_of_sheet sheet q) (list_all (is_of_sheet sheet) qs) h).1 k
+
+-- each projection processor has its rules
+pub has-rules : (s : Setting) (p : ℕ) → IsSetting s → IsTrue (is_projection s p) → is_some (projection_named s.sheet (processor_at s p).name) ≡ true
+has-rules s p h k = rules-among s.sheet s.processors p h.processors.of_sheet k
+
+index-is : (qs : List Processor) (p : ℕ) (q : Processor) → p < length qs → q ≡ get_or qs p q → option_or no_processor (slice_get qs p) ≡ q
+index-is [] p q h e = absurd (omega arith)
+index-is (x ∷ xs) zero q h e = sym e
+index-is (x ∷ xs) (suc p) q h e = index-is xs p q (omega arith) e
+
+pub projection-within : (qs : List Processor) (p : ℕ) → option_is (λ q. not q.saga) (slice_get qs p) ≡ true → p < length qs
+projection-within [] p h = absurd (cc)
+projection-within (x ∷ xs) zero h = omega arith
+projection-within (x ∷ xs) (suc p) h = let ih : p < length xs = projection-within xs p h in omega arith
+
+-- the processor that is read
+pub read-processor : (s : Setting) (p : ℕ) (q : Processor) (read : List Processor) → p < length s.processors → q ≡ get_or read p q → read ≡ s.processors → processor_at s p ≡ q
+read-processor s p q read h e same = index-is s.processors p q h (e ∙ ap (λ qs. get_or qs p q) same)
+
+pub named-rules : (s : Setting) (p : ℕ) (q : Processor) (read : List Processor) (sheet : Sheet) (o : Option Rules) → IsTrue (is_projection s p) → q ≡ get_or read p q → read ≡ s.processors → sheet ≡ s.sheet → o ≡ projection_named sheet q.name
+    → projection_named s.sheet (processor_at s p).name ≡ o
+named-rules s p q read sheet o h e same is k =
+    ap (λ (x : Processor). projection_named s.sheet x.name) (read-processor s p q read (projection-within s.processors p h) e same) ∙ ap (λ sh. projection_named sh q.name) (sym is) ∙ sym k
+
+-- a processor that is not of a saga is one of a projection
+pub not-saga : (qs : List Processor) (p : ℕ) → p < length qs → (option_or no_processor (slice_get qs p)).saga ≡ false → option_is (λ q. not q.saga) (slice_get qs p) ≡ true
+not-saga [] p h e = absurd (omega arith)
+not-saga (x ∷ xs) zero h e = ap not e
+not-saga (x ∷ xs) (suc p) h e = not-saga xs p (omega arith) e
+
+-- ---- names of a table
+
+pub names-next : (es : List Entry) (i : ℕ) (e : Entry) (old new : List Name) (n : Name) → Some e ≡ slice_get es i → old ≡ take i (map (λ e. e.name) es) → n ≡ e.name → new ≡ old ++ n ∷ [] → new ≡ take (i + 1) (map (λ e. e.name) es)
+names-next es i e old new n h k same is =
+    is ∙ ap (λ xs. xs ++ n ∷ []) k ∙ ap (λ m. take i (map (λ e. e.name) es) ++ m ∷ []) same ∙ sym (next es i h) ∙ (let one : suc i ≡ i + 1 = omega arith in ap (λ j. take j (map (λ e. e.name) es)) one)
+  where
+    next : (es : List Entry) (i : ℕ) → Some e ≡ slice_get es i → take (suc i) (map (λ e. e.name) es) ≡ take i (map (λ e. e.name) es) ++ e.name ∷ []
+    next [] i h = absurd (cc)
+    next (x ∷ xs) zero h = let is : x ≡ e = cc in ap (λ (y : Entry). y.name ∷ []) is
+    next (x ∷ xs) (suc i) h = ap (λ ns. x.name ∷ ns) (next xs i h)
+
+-- ---- results
+
+pub on-ok : {U E : Type 0} {P Q : Type 0} (r : Result U E) → (P → Q) → OnOk r P → OnOk r Q
+on-ok (Ok u) f h = f h
+on-ok (Err e) f h = tt
+
+-- ---- a rebuild
+
+among-own : (a : Name) (xs : List Placed) → list_any (same_name a) (map aggregate_of xs) ≡ nat_lt 0 (length (own a xs))
+among-own a [] = refl
+among-own a (x ∷ xs) = ap (λ b. b || list_any (same_name a) (map aggregate_of xs)) (name-sym a (aggregate_of x)) ∙ at (is_own a x) (among-own a xs)
+  where
+    positive : (n : ℕ) → true ≡ nat_lt 0 (suc n)
+    positive n = let pos : 0 < suc n = omega arith in sym (grind (arith, nat_tests, pos))
+
+    at : (b : Bool) → list_any (same_name a) (map aggregate_of xs) ≡ nat_lt 0 (length (own a xs)) → (b || list_any (same_name a) (map aggregate_of xs)) ≡ nat_lt 0 (length (if b then x ∷ own a xs else own a xs))
+    at true h = positive (length (own a xs))
+    at false h = h
+
+nonempty : (chain : List Upcaster) (es : List Stored) → nat_lt 0 (length (flat_map (placed_items chain) es)) ≡ true → 0 < length es
+nonempty chain [] h = absurd (cc)
+nonempty chain (e ∷ es) h = omega arith
+
+pub rebuilt-look_up : (rules : Rules) (chain : List Upcaster) (cells : List Cell) (a : Name) → look_up a (rebuilt rules chain cells) ≡ row_shown (rebuilt_at rules chain cells a)
+rebuilt-look_up rules chain cells a = at (nat_lt 0 (length (items_of chain a cells))) refl
+  where
+    some : list_any (same_name a) (first_names (map aggregate_of (all_items chain cells))) ≡ nat_lt 0 (length (items_of chain a cells))
+    some = any-firsts a (map aggregate_of (all_items chain cells)) ∙ among-own a (all_items chain cells) ∙ ap (λ xs. nat_lt 0 (length xs)) (sym (items-own chain a (events cells)))
+
+    at : (b : Bool) → nat_lt 0 (length (items_of chain a cells)) ≡ b → look_up a (rebuilt rules chain cells) ≡ (if b then Some (folded rules (items_of chain a cells)) else None)
+    at true e = found (λ b. folded rules (items_of chain b cells)) a (first_names (map aggregate_of (all_items chain cells))) (some ∙ e)
+    at false e = missing (λ b. folded rules (items_of chain b cells)) a (first_names (map aggregate_of (all_items chain cells))) (some ∙ e)
+
+rebuilt-listed : (rules : Rules) (chain : List Upcaster) (cells : List Cell) (names : List Name) → AreNames (rebuilt rules chain cells) names → listed (rebuilt rules chain cells) names ≡ rebuilt_rows rules chain cells
+rebuilt-listed rules chain cells names h =
+    in-order (rebuilt_at rules chain cells) (rebuilt rules chain cells) names (events cells) h (rebuilt-look_up rules chain cells) (λ a. refl) (λ a k. nonempty chain (stream_in a (events cells)) k)
+
+pub rebuilt-added : (m : State) (p : ℕ) (q : Processor) (rules : Rules) (table : List Entry) (line : Line) (old next new : List Line) → q ≡ processor_at m.setting p → line ≡ processor_line q → next ≡ old ++ line ∷ [] → rules ≡ projection_at m.setting p
+    → table ≡ rebuilt rules m.setting.sheet.chain m.cells → AddsRows rules.fields table next new → new ≡ old ++ rebuilt_lines m p (processor_at m.setting p)
+rebuilt-added m p q rules table line old next new is line_is next_is r t h =
+    h.lines
+    ∙ ap (λ xs. xs ++ map (line_of rules.fields) (listed table h.names)) (next_is ∙ ap (λ l. old ++ l ∷ []) (line_is ∙ ap processor_line is))
+    ∙ append_assoc old (processor_line (processor_at m.setting p) ∷ []) (map (line_of rules.fields) (listed table h.names))
+    ∙ ap (λ xs. old ++ processor_line (processor_at m.setting p) ∷ map (line_of rules.fields) xs) (ap (λ es. listed es h.names) t ∙ rebuilt-listed rules m.setting.sheet.chain m.cells h.names (subst (λ es. AreNames es h.names) t h.are))
+    ∙ ap (λ (x : Rules). old ++ processor_line (processor_at m.setting p) ∷ map (row_line x) (rebuilt_rows x m.setting.sheet.chain m.cells)) r
+
+drop-processor : (qs : List Processor) (i : ℕ) → i < length qs → drop i qs ≡ option_or no_processor (slice_get qs i) ∷ drop (suc i) qs
+drop-processor [] i h = absurd (omega arith)
+drop-processor (q ∷ qs) zero h = refl
+drop-processor (q ∷ qs) (suc i) h = drop-processor qs i (omega arith)
+
+-- one processor more
+pub next-processor : (m : State) (i : ℕ) (old new all : List Line) → i < length m.setting.processors → new ≡ old ++ unless_saga (processor_at m.setting i).saga (rebuilt_lines m i (processor_at m.setting i))
+    → old ++ rebuild_from m i (drop i m.setting.processors) ≡ all → new ++ rebuild_from m (i + 1) (drop (i + 1) m.setting.processors) ≡ all
+next-processor m i old new all lt is h =
+    let one : i + 1 ≡ suc i = omega arith in
+    ap (λ j. new ++ rebuild_from m j (drop j m.setting.processors)) one ∙ ap (λ xs. xs ++ rebuild_from m (suc i) (drop (suc i) m.setting.processors)) is
+    ∙ append_assoc old (unless_saga (processor_at m.setting i).saga (rebuilt_lines m i (processor_at m.setting i))) (rebuild_from m (suc i) (drop (suc i) m.setting.processors))
+    ∙ ap (λ qs. old ++ rebuild_from m i qs) (sym (drop-processor m.setting.processors i lt)) ∙ h
+
+pub skipped : (m : State) (p : ℕ) (old : List Line) → (processor_at m.setting p).saga ≡ true → old ≡ old ++ unless_saga (processor_at m.setting p).saga (rebuilt_lines m p (processor_at m.setting p))
+skipped m p old e = sym (append-nil old) ∙ ap (λ b. old ++ unless_saga b (rebuilt_lines m p (processor_at m.setting p))) (sym e)
+
+pub not-skipped : (m : State) (p : ℕ) (old new : List Line) → (processor_at m.setting p).saga ≡ false → new ≡ old ++ rebuilt_lines m p (processor_at m.setting p)
+    → new ≡ old ++ unless_saga (processor_at m.setting p).saga (rebuilt_lines m p (processor_at m.setting p))
+not-skipped m p old new e h = h ∙ ap (λ b. old ++ unless_saga b (rebuilt_lines m p (processor_at m.setting p))) (sym e)
+
+-- ---- kept rows
+
+filter-none : {A B : Type 0} (t : B → Bool) (f : A → List B) (xs : List A) → nat_lt 0 (length (filter t (flat_map f xs))) ≡ true → 0 < length xs
+filter-none t f [] h = absurd (cc)
+filter-none t f (x ∷ xs) h = omega arith
+
+module _ (w : Whole) (p : ℕ) (h : IsWorld w) (lt : p < length w.setting.processors) where
+  there : slice_get (state_of w).shelves p ≡ Some (shelf_at (state_of w) p)
+  there = get-at empty_shelf (state_of w).shelves p (let d : length (state_of w).shelves ≡ length w.setting.processors = h.state.declared in omega arith)
+
+  prefixes : CoverPrefix (events w.cells) (portions (shelf_at (state_of w) p).rows)
+  prefixes = (AllFrom-get (IsPlace w.setting w.cells) 0 (state_of w).shelves p (shelf_at (state_of w) p) h.state.places there p (omega arith)).folded.prefixes
+
+  kept : (a : Name) → look_up a (place_at w p).table ≡ folded_row w.setting p (covered_events (portions (place_at w p).shelf.rows) (events w.cells)) (place_at w p).shelf a
+  kept = AllFrom-get (IsTable w.setting (events w.cells)) 0 w.places p (place_at w p) h.tables (get-at empty_place w.places p (place-declared w p h lt)) p (omega arith)
+
+  shown-look_up : (a : Name) → look_up a (place_at w p).table ≡ row_shown (shown_at (state_of w) p a)
+  shown-look_up a =
+      kept a
+      ∙ ap (λ (x : Shelf). folded_row w.setting p (covered_events (portions x.rows) (events w.cells)) x a) (sym (shelf-place w p))
+      ∙ ap (λ n. row_if w.setting p (covered_events (portions (shelf_at (state_of w) p).rows) (events w.cells)) (shelf_at (state_of w) p) a n) (sym (same-position w.setting.sheet.chain w.cells (shelf_at (state_of w) p) a))
+      ∙ ap (λ r. if nat_lt 0 (position_in w.setting.sheet.chain w.cells (shelf_at (state_of w) p) a) then Some (record { position = position_in w.setting.sheet.chain w.cells (shelf_at (state_of w) p) a; row = row_or (start_row (projection_at w.setting p).fields) r }) else None)
+      (sym (same-row (projection_at w.setting p) w.setting.sheet.chain w.cells (shelf_at (state_of w) p) a prefixes))
+
+  shown-listed : (names : List Name) → AreNames (place_at w p).table names → listed (place_at w p).table names ≡ rows_of (state_of w) p
+  shown-listed names n =
+      in-order (shown_at (state_of w) p) (place_at w p).table names (events w.cells) n shown-look_up (λ a. refl)
+      (λ a k. filter-none (λ x. covered_in (shelf_at (state_of w) p).rows _ x.index) (placed_items w.setting.sheet.chain) (stream_in a (events w.cells)) k)
+
+pub shown-move : (w : Whole) (p : ℕ) (rules : Rules) (table : List Entry) (lines : List Line) (move : Move) → IsWorld w → IsTrue (is_projection w.setting p) → rules ≡ projection_at w.setting p → table ≡ (place_at w p).table
+    → AddsRows rules.fields table [] lines → move ≡ record { edits = []; reply = Reply.Lines (length lines); report = lines } → IsMove w (reported (state_of w) (rows_report (state_of w) p)) move
+shown-move w p rules table lines move h k r t added is =
+    subst (IsMove w (reported (state_of w) (rows_report (state_of w) p))) (sym is) (record {
+      fits = record { single = omega arith; can = tt; world = h };
+      state = refl;
+      reply = ap (λ ls. Reply.Lines (length ls)) same;
+      report = same;
+    })
+  where
+    same : lines ≡ rows_report (state_of w) p
+    same =
+        added.lines
+        ∙ ap (map (line_of rules.fields)) (ap (λ es. listed es added.names) t ∙ shown-listed w p h (projection-within w.setting.processors p k) added.names (subst (λ es. AreNames es added.names) t added.are))
+        ∙ ap (λ (x : Rules). map (line_of x.fields) (rows_of (state_of w) p)) r

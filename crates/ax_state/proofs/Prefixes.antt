@@ -1,0 +1,157 @@
+-- Where the covered events of each aggregate are a prefix of its stream, positions and rows can be read off the covered events alone.
+use Rattle.std.proofs.Common.{◌≡◌, ℕ, Bool, true, false, not, List, [], ◌∷◌, ◌++◌, map, length, filter, flat_map, take, drop, find, Some, if◌then◌else◌, refl, sym, ap, ◌∙◌}
+use Rattle.std.proofs.lemmas.Grind.{flat_map-append}
+use Rattle.std.proofs.lemmas.List.{take-append-drop}
+use Rattle.std.specs.List.{list_all}
+use Rattle.std.proofs.lemmas.Slice.Eq.{bytes_eq-Decides}
+use Rattle.ax_values.specs.Grammar.{Name}
+use Rattle.ax_segments.specs.Segments.{hash_of, matches}
+use Rattle.ax_log.specs.Log.{Stored, events, is_of, stream_in}
+use Rattle.ax_rules.specs.Rules.{Rules, fold_items}
+use Rattle.ax_upcast.specs.Upcast.{upcast}
+use Rattle.ax_projections.specs.Items.{Placed, placed, placed_items, items_of, plain_items}
+use Rattle.ax_claims.specs.Rows.{TokenRow}
+use Rattle.ax_state.specs.State.{Shelf}
+use Rattle.ax_state.specs.Positions.{row_covers, covered_in, covered_items_in, first_letter, drops_of, position_in, row_in, undropped}
+use Rattle.ax_state.specs.Portions.{Portion, portion_of, portions, portion_covers, covered_by, items_in, covered_events, position_by, row_by}
+use Rattle.ax_state.specs.WellFormed.{CoverPrefix, is_prefix_test}
+use Rattle.ax_values.specs.declared.cell.Cell.{Cell}
+use Rattle.ax_values.specs.declared.item.Item.{Item}
+use Rattle.ax_upcast.specs.declared.upcaster.Upcaster.{Upcaster}
+
+-- ---- lists
+
+none-pass : {A : Type 0} (t : A → Bool) (xs : List A) → list_all not (map t xs) ≡ true → filter t xs ≡ []
+none-pass t [] h = refl
+none-pass t (x ∷ xs) h = at (t x) h (none-pass t xs)
+  where
+    at : (b : Bool) → list_all not (b ∷ map t xs) ≡ true → (list_all not (map t xs) ≡ true → filter t xs ≡ []) → (if b then x ∷ filter t xs else filter t xs) ≡ []
+    at true h ih = absurd (cc)
+    at false h ih = ih h
+
+-- what passes is a prefix
+pub passing-prefix : {A : Type 0} (t : A → Bool) (xs : List A) → is_prefix_test (map t xs) ≡ true → filter t xs ≡ take (length (filter t xs)) xs
+passing-prefix t [] h = refl
+passing-prefix t (x ∷ xs) h = at (t x) h (passing-prefix t xs) (none-pass t xs)
+  where
+    at : (b : Bool) → is_prefix_test (b ∷ map t xs) ≡ true → (is_prefix_test (map t xs) ≡ true → filter t xs ≡ take (length (filter t xs)) xs) → (list_all not (map t xs) ≡ true → filter t xs ≡ [])
+        → (if b then x ∷ filter t xs else filter t xs) ≡ take (length (if b then x ∷ filter t xs else filter t xs)) (x ∷ xs)
+    at true h ih none = ap (λ ys. x ∷ ys) (ih h)
+    at false h ih none = none h ∙ sym (ap (λ ys. take (length ys) (x ∷ xs)) (none h))
+
+-- ---- coverage
+
+-- rows cover what their portions cover
+pub covered-portions : (rows : List TokenRow) (h i : ℕ) → covered_in rows h i ≡ covered_by (portions rows) h i
+covered-portions [] h i = refl
+covered-portions (r ∷ rows) h i = at (matches r.segment h) (covered-portions rows h i)
+  where
+    at : (b : Bool) → covered_in rows h i ≡ covered_by (portions rows) h i
+        → row_covers h i (if b then Some r else find (λ x. matches x.segment h) rows) ≡ portion_covers h i (if b then Some (portion_of r) else find (λ x. matches x.segment h) (portions rows))
+    at true ih = refl
+    at false ih = ih
+
+abbrev pub covers_for : List Portion → Name → Stored → Bool
+covers_for ps a e = covered_by ps (hash_of a) e.index
+
+abbrev keep_if : Stored → List Stored → Bool → List Stored
+keep_if e es b = if b then e ∷ es else es
+
+-- the covered events of an aggregate are those of its stream
+pub covered-stream : (ps : List Portion) (a : Name) (es : List Stored) → stream_in a (covered_events ps es) ≡ filter (covers_for ps a) (stream_in a es)
+covered-stream ps a [] = refl
+covered-stream ps a (e ∷ es) = by (is_of a e) refl (covered_by ps (hash_of e.record_of.aggregate) e.index) refl (covered-stream ps a es)
+  where
+    own : is_of a e ≡ true → covered_by ps (hash_of e.record_of.aggregate) e.index ≡ covers_for ps a e
+    own k = ap (λ b. covered_by ps (hash_of b) e.index) ((bytes_eq-Decides e.record_of.aggregate a).0 k)
+
+    by : (p : Bool) → is_of a e ≡ p → (q : Bool) → covered_by ps (hash_of e.record_of.aggregate) e.index ≡ q → stream_in a (covered_events ps es) ≡ filter (covers_for ps a) (stream_in a es)
+        → stream_in a (if q then e ∷ covered_events ps es else covered_events ps es) ≡ filter (covers_for ps a) (if p then e ∷ stream_in a es else stream_in a es)
+    by true k true c ih = ap (keep_if e (stream_in a (covered_events ps es))) k ∙ ap (λ xs. e ∷ xs) ih ∙ sym (ap (keep_if e (filter (covers_for ps a) (stream_in a es))) (sym (own k) ∙ c))
+    by true k false c ih = ih ∙ sym (ap (keep_if e (filter (covers_for ps a) (stream_in a es))) (sym (own k) ∙ c))
+    by false k true c ih = ap (keep_if e (stream_in a (covered_events ps es))) k ∙ ih
+    by false k false c ih = ih
+
+-- ---- items
+
+-- the items of one event have its index
+filter-placed : (t : ℕ → Bool) (i : ℕ) (xs : List Item) → filter (λ x. t x.index) (map (placed i) xs) ≡ (if t i then map (placed i) xs else [])
+filter-placed t i [] = at (t i)
+  where
+    at : (b : Bool) → [] ≡ (if b then map (placed i) [] else [])
+    at true = refl
+    at false = refl
+filter-placed t i (x ∷ xs) = at (t i) (filter-placed t i xs)
+  where
+    at : (b : Bool) → filter (λ x. t x.index) (map (placed i) xs) ≡ (if b then map (placed i) xs else [])
+        → (if b then placed i x ∷ filter (λ x. t x.index) (map (placed i) xs) else filter (λ x. t x.index) (map (placed i) xs)) ≡ (if b then map (placed i) (x ∷ xs) else [])
+    at true ih = ap (λ ys. placed i x ∷ ys) ih
+    at false ih = ih
+
+filter-append : {A : Type 0} (t : A → Bool) (xs ys : List A) → filter t (xs ++ ys) ≡ filter t xs ++ filter t ys
+filter-append t [] ys = refl
+filter-append t (x ∷ xs) ys = at (t x) (filter-append t xs ys)
+  where
+    at : (b : Bool) → filter t (xs ++ ys) ≡ filter t xs ++ filter t ys → (if b then x ∷ filter t (xs ++ ys) else filter t (xs ++ ys)) ≡ (if b then x ∷ filter t xs else filter t xs) ++ filter t ys
+    at true ih = ap (λ zs. x ∷ zs) ih
+    at false ih = ih
+
+-- the items at indexes that pass are those of the events that pass
+pub filter-items : (chain : List Upcaster) (t : ℕ → Bool) (es : List Stored) → filter (λ x. t x.index) (flat_map (placed_items chain) es) ≡ flat_map (placed_items chain) (filter (λ e. t e.index) es)
+filter-items chain t [] = refl
+filter-items chain t (e ∷ es) =
+    filter-append (λ x. t x.index) (placed_items chain e) (flat_map (placed_items chain) es) ∙ ap (λ xs. xs ++ filter (λ x. t x.index) (flat_map (placed_items chain) es)) (filter-placed t e.index (upcast chain e.record_of))
+    ∙ at (t e.index) (filter-items chain t es)
+  where
+    at : (b : Bool) → filter (λ x. t x.index) (flat_map (placed_items chain) es) ≡ flat_map (placed_items chain) (filter (λ e. t e.index) es)
+        → (if b then placed_items chain e else []) ++ filter (λ x. t x.index) (flat_map (placed_items chain) es) ≡ flat_map (placed_items chain) (if b then e ∷ filter (λ e. t e.index) es else filter (λ e. t e.index) es)
+    at true ih = ap (λ xs. placed_items chain e ++ xs) ih
+    at false ih = ih
+
+same-filter : {A : Type 0} (t u : A → Bool) (xs : List A) → ((x : A) → t x ≡ u x) → filter t xs ≡ filter u xs
+same-filter t u [] h = refl
+same-filter t u (x ∷ xs) h = ap (λ b. if b then x ∷ filter t xs else filter t xs) (h x) ∙ ap (λ ys. if u x then x ∷ ys else ys) (same-filter t u xs h)
+
+-- the covered items are the items of the covered events
+pub covered-items : (chain : List Upcaster) (cells : List Cell) (rows : List TokenRow) (a : Name) → covered_items_in chain cells rows a ≡ items_in chain (covered_events (portions rows) (events cells)) a
+covered-items chain cells rows a =
+    same-filter (λ x. covered_in rows (hash_of a) x.index) (λ x. covered_by (portions rows) (hash_of a) x.index) (items_of chain a cells) (λ x. covered-portions rows (hash_of a) x.index)
+    ∙ filter-items chain (λ i. covered_by (portions rows) (hash_of a) i) (stream_in a (events cells))
+    ∙ ap (flat_map (placed_items chain)) (sym (covered-stream (portions rows) a (events cells)))
+
+-- and they stand in front of the others
+pub items-prefix : (chain : List Upcaster) (es : List Stored) (ps : List Portion) (a : Name) → CoverPrefix es ps → (rest : List Placed) × (items_in chain es a ≡ items_in chain (covered_events ps es) a ++ rest)
+items-prefix chain es ps a h =
+    let s : List Stored = stream_in a es in
+    let n : ℕ = length (filter (covers_for ps a) s) in
+    let front : stream_in a (covered_events ps es) ≡ take n s = covered-stream ps a es ∙ passing-prefix (covers_for ps a) s (h a) in (
+      flat_map (placed_items chain) (drop n s),
+      ap (flat_map (placed_items chain)) (sym (take-append-drop n s)) ∙ flat_map-append (placed_items chain) (take n s) (drop n s) ∙ ap (λ es. flat_map (placed_items chain) es ++ flat_map (placed_items chain) (drop n s)) (sym front),
+    )
+
+take-front : {A : Type 0} (xs ys : List A) → take (length xs) (xs ++ ys) ≡ xs
+take-front [] ys = refl
+take-front (x ∷ xs) ys = ap (λ zs. x ∷ zs) (take-front xs ys)
+
+take-length : {A : Type 0} (xs : List A) → take (length xs) xs ≡ xs
+take-length [] = refl
+take-length (x ∷ xs) = ap (λ zs. x ∷ zs) (take-length xs)
+
+-- ---- the law
+
+-- the position that is counted in all items is that by the covered events
+pub same-position : (chain : List Upcaster) (cells : List Cell) (shelf : Shelf) (a : Name) → position_in chain cells shelf a ≡ position_by chain (covered_events (portions shelf.rows) (events cells)) (first_letter shelf a) a
+same-position chain cells shelf a = ap length (covered-items chain cells shelf.rows a)
+
+-- the row that is folded from a prefix of all items is that by the covered events
+pub same-row : (rules : Rules) (chain : List Upcaster) (cells : List Cell) (shelf : Shelf) (a : Name) → CoverPrefix (events cells) (portions shelf.rows)
+    → row_in rules chain cells shelf a ≡ row_by rules chain (covered_events (portions shelf.rows) (events cells)) (first_letter shelf a) (drops_of shelf) a
+same-row rules chain cells shelf a h =
+    ap (λ n. fold_items rules (plain_items (undropped (drops_of shelf) (take n (items_of chain a cells))))) (same-position chain cells shelf a)
+    ∙ ap (λ xs. fold_items rules (plain_items (undropped (drops_of shelf) xs))) (ap (take (length covered)) split.1 ∙ take-front covered split.0 ∙ sym (take-length covered))
+  where
+    covered : List Placed
+    covered = items_in chain (covered_events (portions shelf.rows) (events cells)) a
+
+    split : (rest : List Placed) × (items_in chain (events cells) a ≡ covered ++ rest)
+    split = items-prefix chain (events cells) (portions shelf.rows) a h

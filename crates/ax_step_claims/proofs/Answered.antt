@@ -1,0 +1,164 @@
+-- What a claim answers: a refusal changes nothing, and a grant leads to the state of the definition.
+use Rattle.std.proofs.Common.{◌≡◌, ℕ, suc, ◌+◌, ◌<◌, Bool, true, false, not, ◌&&◌, List, [], ◌∷◌, ◌++◌, length, Option, Some, None, Ok, Err, IsTrue, is_some, find, map, get_or, slice_get, if◌then◌else◌, refl, sym, ap, ap₂, ◌∙◌, subst, arith}
+use Rattle.std.proofs.lemmas.List.{length-map}
+use Rattle.ax_values.specs.Grammar.{Name}
+use Rattle.ax_values.specs.Words.{place_where}
+use Rattle.ax_segments.specs.Segments.{Segment, same_segment}
+use Rattle.ax_claims.specs.Rows.{TokenRow, row_at, put_row}
+use Rattle.ax_claims.specs.Changes.{is_claimed, is_other, is_expired, owned, claimed_row, claimed as claimed_rows, IsChange}
+use Rattle.ax_claims.specs.declared.refused.Refused.{Refused}
+use Rattle.ax_claims.proofs.Places.{get-read, get-within}
+use Rattle.ax_state.specs.Every.{option_or}
+use Rattle.ax_state.specs.Setting.{name_at}
+use Rattle.ax_state.specs.State.{State, Shelf, Desk, Held, shelf_at, desk_at, empty_desk, empty_shelf, actor_name, with_desk, with_fence, with_rows}
+use Rattle.ax_state.specs.Portions.{portions}
+use Rattle.ax_state.specs.WellFormed.{IsPlace, AreParts}
+use Rattle.ax_state.specs.Answer.{answer}
+use Rattle.ax_state.proofs.Lists.{AllFrom-get}
+use Rattle.ax_state.proofs.Puts.{portions-put}
+use Rattle.ax_world.specs.Whole.{Whole, Place, state_of, place_at}
+use Rattle.ax_world.specs.Made.{made_all}
+use Rattle.ax_world.specs.Fits.{IsWorld}
+use Rattle.ax_world.specs.Moves.{IsMove}
+use Rattle.ax_world.proofs.Moves.{unmoved, moved}
+use Rattle.ax_world.proofs.Shelves.{get-at, shelf-place, state-rows, tables-rows}
+use Rattle.ax_world.specs.declared.edit.Edit.{Edit}
+use Rattle.ax_world.specs.declared.edit.Move.{Move}
+use Rattle.ax_journal.specs.declared.reply.Reply.{Reply}
+use Rattle.ax_step_claims.specs.Claiming.{claimed, claimed_reply, granted, hold_fence, found_reply, refused_reply, HasOwner, NamesOwned}
+use Rattle.ax_step_claims.proofs.ClaimKept.{kept-granted}
+
+-- ---- refusals
+
+-- what a refusal of a claim says of the rows
+abbrev pub IsRefusal : Segment → Name → ℕ → List TokenRow → Refused → Type 0
+IsRefusal s actor now rows Refused.NoSegment = row_at s rows ≡ None
+IsRefusal s actor now rows (Refused.Claimed place) = (r : TokenRow) × (slice_get rows place ≡ Some r) × (row_at s rows ≡ Some r) × (is_claimed actor now r ≡ true)
+IsRefusal s actor now rows (Refused.Stale held found) = ⊥
+
+find-place : (t : TokenRow → Bool) (rows : List TokenRow) (r : TokenRow) → find t rows ≡ Some r → slice_get rows (place_where t rows) ≡ Some r
+find-place t [] r e = absurd (cc)
+find-place t (x ∷ xs) r e = at (t x) e (find-place t xs r)
+  where
+    at : (b : Bool) → (if b then Some x else find t xs) ≡ Some r → (find t xs ≡ Some r → slice_get xs (place_where t xs) ≡ Some r) → slice_get (x ∷ xs) (if b then 0 else suc (place_where t xs)) ≡ Some r
+    at true e ih = e
+    at false e ih = ih e
+
+pub refusal : (s : Segment) (actor : Name) (now fence : ℕ) (old new : List TokenRow) (e : Refused × Name) → IsChange (claimed_rows s actor now fence old) actor old new (Err e) → (new ≡ old) × IsRefusal s actor now old e.0
+refusal s actor now fence old new e h = by (row_at s old) refl h
+  where
+    by : (o : Option TokenRow) → row_at s old ≡ o → IsChange (claimed_row s actor now fence old o) actor old new (Err e) → (new ≡ old) × IsRefusal s actor now old e.0
+    by None k h = (h.2, subst (IsRefusal s actor now old) (sym h.0) k)
+    by (Some r) k h = at (is_claimed actor now r) refl h
+      where
+        place : ℕ
+        place = place_where (λ x. same_segment x.segment s) old
+
+        at : (b : Bool) → is_claimed actor now r ≡ b → IsChange (if b then Err (Refused.Claimed place) else Ok (put_row (owned r (Some actor) now fence) old)) actor old new (Err e) → (new ≡ old) × IsRefusal s actor now old e.0
+        at true c h = (h.2, subst (IsRefusal s actor now old) (sym h.0) (r, find-place (λ x. same_segment x.segment s) old r k, k, c))
+        at false c h = absurd h
+
+claimed-owner : (actor : Name) (o : Option Name) (b : Bool) → (is_other actor o && b) ≡ true → IsTrue (is_some o)
+claimed-owner actor None b h = absurd (cc)
+claimed-owner actor (Some owner) b h = refl
+
+pub names-owned : (s : Segment) (actor : Name) (now : ℕ) (rows : List TokenRow) (refused : Refused) → IsRefusal s actor now rows refused → NamesOwned rows refused
+names-owned s actor now rows Refused.NoSegment h = tt
+names-owned s actor now rows (Refused.Claimed place) h = subst HasOwner (sym h.1) (claimed-owner actor h.0.owner (not (is_expired now h.0)) h.3)
+names-owned s actor now rows (Refused.Stale held found) h = tt
+
+refused-answer : (m : State) (actor p : ℕ) (s : Segment) (refused : Refused) → IsRefusal s (actor_name m actor) m.clock (shelf_at m p).rows refused
+    → claimed m actor p s (row_at s (shelf_at m p).rows) ≡ answer m (refused_reply (shelf_at m p).rows refused)
+refused-answer m actor p s Refused.NoSegment h = ap (claimed m actor p s) h
+refused-answer m actor p s (Refused.Claimed place) h =
+    ap (claimed m actor p s) h.2 ∙ ap (λ b. if b then answer m (claimed_reply h.0 h.0.owner) else granted m actor p s h.0) h.3 ∙ ap (λ o. answer m (found_reply o)) (sym h.1)
+refused-answer m actor p s (Refused.Stale held found) h = absurd h
+
+-- the move of a refusal
+pub refused-move : (w : Whole) (actor p : ℕ) (s : Segment) (rows : List TokenRow) (refused : Refused) (reply : Reply) → IsWorld w → rows ≡ (place_at w p).shelf.rows
+    → IsRefusal s (actor_name (state_of w) actor) w.clock rows refused → reply ≡ refused_reply rows refused
+    → IsMove w (claimed (state_of w) actor p s (row_at s (shelf_at (state_of w) p).rows)) (record { edits = []; reply = reply; report = [] })
+refused-move w actor p s rows refused reply h is k r =
+    let same : rows ≡ (shelf_at (state_of w) p).rows = is ∙ ap (λ x. x.rows) (sym (shelf-place w p)) in
+    let a : claimed (state_of w) actor p s (row_at s (shelf_at (state_of w) p).rows) ≡ answer (state_of w) reply = refused-answer (state_of w) actor p s refused (subst (λ rs. IsRefusal s (actor_name (state_of w) actor) w.clock rs refused) same k) ∙ ap (answer (state_of w)) (ap (λ rs. refused_reply rs refused) (sym same) ∙ sym r) in
+    subst (λ x. IsMove w x (record { edits = []; reply = reply; report = [] })) (sym a) (unmoved w reply h)
+
+-- ---- grants
+
+-- a claim that is granted: the row that was found is free, and gets the actor and the fence
+pub record IsGrant (actor : Name) (now fence : ℕ) (s : Segment) (old new : List TokenRow) : Type 0 where
+  pub row : TokenRow
+  pub found : row_at s old ≡ Some row
+  pub free : is_claimed actor now row ≡ false
+  pub rows_are : new ≡ put_row (owned row (Some actor) now fence) old
+
+pub grant : (s : Segment) (actor : Name) (now fence : ℕ) (old new : List TokenRow) (u : Unit {0}) → IsChange (claimed_rows s actor now fence old) actor old new (Ok u) → IsGrant actor now fence s old new
+grant s actor now fence old new u h = by (row_at s old) refl h
+  where
+    by : (o : Option TokenRow) → row_at s old ≡ o → IsChange (claimed_row s actor now fence old o) actor old new (Ok u) → IsGrant actor now fence s old new
+    by None k h = absurd h
+    by (Some r) k h = at (is_claimed actor now r) refl h
+      where
+        place : ℕ
+        place = place_where (λ x. same_segment x.segment s) old
+
+        at : (b : Bool) → is_claimed actor now r ≡ b → IsChange (if b then Err (Refused.Claimed place) else Ok (put_row (owned r (Some actor) now fence) old)) actor old new (Ok u) → IsGrant actor now fence s old new
+        at true c h = absurd h
+        at false c h = record { row = r; found = k; free = c; rows_are = h }
+
+module _ (w : Whole) (actor p : ℕ) (s : Segment) (old : Desk) (row : TokenRow) where
+  abbrev after : List TokenRow
+  after = put_row (owned row (Some (actor_name (state_of w) actor)) w.clock (suc w.fence)) (place_at w p).shelf.rows
+
+  abbrev holding : Desk
+  holding = record old { held = hold_fence p s (suc w.fence) old.held }
+
+  abbrev changes : List Edit
+  changes = Edit.SetRows p after ∷ Edit.SetDesk actor holding ∷ Edit.Fence (suc w.fence) ∷ []
+
+  abbrev granted_to : Desk → List TokenRow → State → State
+  granted_to d rs m = with_fence (suc w.fence) (with_desk actor d (with_rows p rs m))
+
+  state-granted : slice_get w.desks actor ≡ Some old → state_of (made_all changes w) ≡ (granted (state_of w) actor p s row).state
+  state-granted at =
+      let is : desk_at (state_of w) actor ≡ old = ap (option_or empty_desk) at in
+      ap (λ (m : State). with_fence (suc w.fence) (with_desk actor holding m)) (state-rows w p after)
+      ∙ ap (λ (x : Shelf). granted_to holding (put_row (owned row (Some (actor_name (state_of w) actor)) w.clock (suc w.fence)) x.rows) (state_of w)) (sym (shelf-place w p))
+      ∙ ap (λ (d : Desk). granted_to (record d { held = hold_fence p s (suc w.fence) d.held }) (put_row (owned row (Some (actor_name (state_of w) actor)) w.clock (suc w.fence)) (shelf_at (state_of w) p).rows) (state_of w)) (sym is)
+
+  module _ (h : IsWorld w) (lt : p < length w.places) (found : row_at s (place_at w p).shelf.rows ≡ Some row) where
+    there : slice_get (state_of w).shelves p ≡ Some (shelf_at (state_of w) p)
+    there = let l : length (map (λ (x : Place). x.shelf) w.places) ≡ length w.places = length-map w.places (λ x. x.shelf) in get-at empty_shelf (state_of w).shelves p (omega arith)
+
+    found-there : row_at s (shelf_at (state_of w) p).rows ≡ Some row
+    found-there = ap (λ (x : Shelf). row_at s x.rows) (shelf-place w p) ∙ found
+
+    same : portions after ≡ portions (place_at w p).shelf.rows
+    same =
+        let was : IsPlace w.setting w.cells p (shelf_at (state_of w) p) = AllFrom-get (IsPlace w.setting w.cells) 0 (state_of w).shelves p (shelf_at (state_of w) p) h.state.places there p (omega arith) in
+        portions-put s (place_at w p).shelf.rows row (owned row (Some (actor_name (state_of w) actor)) w.clock (suc w.fence)) (subst (λ (x : Shelf). AreParts (portions x.rows)) (shelf-place w p) was.parts) found refl
+
+    granted-move : slice_get w.desks actor ≡ Some old → is_claimed (actor_name (state_of w) actor) w.clock row ≡ false
+        → IsMove w (claimed (state_of w) actor p s (row_at s (shelf_at (state_of w) p).rows)) (record { edits = changes; reply = Reply.Fenced (suc w.fence); report = [] })
+    granted-move at free =
+        let a : claimed (state_of w) actor p s (row_at s (shelf_at (state_of w) p).rows) ≡ granted (state_of w) actor p s row =
+        ap (claimed (state_of w) actor p s) found-there ∙ ap (λ b. if b then answer (state_of w) (claimed_reply row row.owner) else granted (state_of w) actor p s row) free
+        in
+        subst (λ x. IsMove w x (record { edits = changes; reply = Reply.Fenced (suc w.fence); report = [] })) (sym a)
+        (moved w changes (granted (state_of w) actor p s row) (Reply.Fenced (suc w.fence)) h (omega arith) (lt, (get-within w.desks actor old at, (tt, tt))) (state-granted at)
+        (kept-granted (state_of w) actor p s (shelf_at (state_of w) p) row there found-there h.state) refl (tables-rows w p after lt same h.tables) refl refl)
+
+pub three : {A : Type 0} (a b c d : List A) (x y z : A) → a ≡ [] → b ≡ a ++ x ∷ [] → c ≡ b ++ y ∷ [] → d ≡ c ++ z ∷ [] → d ≡ x ∷ y ∷ z ∷ []
+three a b c d x y z h i j k = k ∙ ap (λ xs. xs ++ z ∷ []) (j ∙ ap (λ xs. xs ++ y ∷ []) (i ∙ ap (λ xs. xs ++ x ∷ []) h))
+
+pub claim-move : (w : Whole) (actor p : ℕ) (s : Segment) (now fence : ℕ) (owner : Name) (old new : List TokenRow) (was desk : Desk) (held : List Held) (move : Move) → IsWorld w → p < length w.places
+    → now ≡ w.clock → fence ≡ w.fence + 1 → owner ≡ actor_name (state_of w) actor → old ≡ (place_at w p).shelf.rows → IsGrant owner now fence s old new → slice_get w.desks actor ≡ Some was
+    → held ≡ hold_fence p s fence was.held → desk ≡ record was { held = held } → move ≡ record { edits = Edit.SetRows p new ∷ Edit.SetDesk actor desk ∷ Edit.Fence fence ∷ []; reply = Reply.Fenced fence; report = [] }
+    → IsMove w (claimed (state_of w) actor p s (row_at s (shelf_at (state_of w) p).rows)) move
+claim-move w actor p s now fence owner old new was desk held move h lt clock next name rows g at held_is desk_is is =
+    let succ : fence ≡ suc w.fence = omega (arith, next) in
+    rw (is, desk_is, held_is, g.rows_are, name, clock, rows, succ)
+    (granted-move w actor p s was g.row h lt (ap (row_at s) (sym rows) ∙ g.found) at (ap₂ (λ n t. is_claimed n t g.row) (sym name) (sym clock) ∙ g.free))
+
+pub named : (names read_from : List Name) (k : ℕ) (owner read : Name) → k < length names → owner ≡ read → read ≡ get_or read_from k read → read_from ≡ names → owner ≡ name_at names k
+named names read_from k owner read lt e h same = e ∙ sym (ap (option_or []) (get-read names k read lt (h ∙ ap (λ ns. get_or ns k read) same)))

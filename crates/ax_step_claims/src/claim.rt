@@ -1,0 +1,50 @@
+ghost use Rattle.std.specs.Prelude.{◌≡◌, ◌^◌, ◌<◌, length, IfOk};
+ghost use Rattle.ax_claims.specs.Rows.{row_at};
+ghost use Rattle.ax_state.specs.State.{shelf_at};
+ghost use Rattle.ax_world.specs.Whole.{state_of};
+ghost use Rattle.ax_world.specs.Moves.{IsMove};
+ghost use Rattle.ax_step_claims.specs.Claiming.{claimed};
+
+use crate::fences::hold_fence;
+use crate::refusals::refused_reply;
+use ax_journal::Reply;
+use ax_segments::Segment;
+use ax_values::{Duplicate, NoMemory};
+use ax_world::{Edit, Edits, Held, Move, World};
+use std::alloc::Global;
+
+/// Gives the actor the segment of the processor, under a fresh fence.
+pub(crate) fn claim_segment(
+    alloc: Global,
+    world: &World,
+    actor: u32,
+    processor: u32,
+    segment: Segment,
+) -> Result<Move, NoMemory>
+    requires processor { processor < length world.now.whole.setting.processors }
+    requires actor { actor < length world.now.whole.setting.actors }
+    requires fence { world.now.whole.fence < 2 ^ 63 }
+    ensures { IfOk result (IsMove world.now.whole (claimed (state_of world.now.whole) actor processor segment (row_at segment (shelf_at (state_of world.now.whole) processor).rows))) }
+{
+    let now = world.clock();
+    let fence = world.fence() + 1;
+    let owner = world.actors().parts()[actor as usize].copy(alloc)?;
+    let mut rows = world.rows(processor).copy(alloc)?;
+    if let Err((refused, _owner)) = rows.claim(segment, owner, now, fence) {
+        let reply = refused_reply(alloc, rows.rows(), refused)?;
+        return Ok(Move::without_edits(alloc, reply));
+    }
+    let desk = world.desk(actor);
+    let fresh = Held {
+        processor,
+        segment,
+        fence,
+    };
+    let held = hold_fence(alloc, desk.held.parts(), fresh)?;
+    let desk = desk.with_held(alloc, held)?;
+    let mut edits = Edits::new(alloc);
+    edits.push(Edit::SetRows { processor, rows })?;
+    edits.push(Edit::SetDesk { actor, desk })?;
+    edits.push(Edit::Fence(fence))?;
+    Ok(Move::of(alloc, edits, Reply::Fenced { fence }))
+}

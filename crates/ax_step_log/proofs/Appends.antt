@@ -1,0 +1,140 @@
+-- What an append makes of a world.
+use Rattle.std.specs.Prelude.{◌≡◌, ℕ, suc, ◌+◌, ◌≤◌, ◌==◌, Bool, true, false, IfSome, List, [], ◌∷◌, length, map, Option, Some, None, slice_get, slice_set, if◌then◌else◌}
+use Rattle.std.proofs.Common.{refl, ap, ap₂, sym, ◌∙◌, subst, inl, arith}
+use Rattle.std.proofs.lemmas.Bool.Decides.{nat_tests}
+use Rattle.std.proofs.lemmas.Option.{slice_get_within}
+use Rattle.ax_values.specs.Grammar.{Name}
+use Rattle.ax_log.specs.Log.{Stored, events, length_of, put_cells}
+use Rattle.ax_log.specs.Puts.{CanPutAll, put_all, puts_at}
+use Rattle.ax_log.specs.Answers.{HasCells, GoesOn, IsConflict, aggregate_of, void_among}
+use Rattle.ax_log.proofs.Made.{put_all-puts_at}
+use Rattle.ax_state.specs.Every.{AllFrom}
+use Rattle.ax_state.specs.Setting.{Setting, name_at}
+use Rattle.ax_state.specs.State.{Desk, Reservation, with_cells}
+use Rattle.ax_state.specs.Answer.{Answer, answer}
+use Rattle.ax_state.specs.Portions.{portions, covered_events}
+use Rattle.ax_state.specs.WellFormed.{IsPlace, IsReservation}
+use Rattle.ax_state.proofs.Fill.{Own, Fills, IsFill, fills-put, fills-covered}
+use Rattle.ax_world.specs.Whole.{Whole, Place, state_of}
+use Rattle.ax_world.specs.Made.{made_all}
+use Rattle.ax_world.specs.Fits.{IsWorld, IsTable}
+use Rattle.ax_world.specs.Moves.{IsMove}
+use Rattle.ax_world.proofs.Moves.{moved, tables-kept}
+use Rattle.ax_step_log.specs.Logging.{appended_unless, with_reservation, released}
+use Rattle.ax_step_log.specs.Made.{release_puts, void_puts}
+use Rattle.ax_step_log.proofs.Releases.{put-release, can-release, events-released}
+use Rattle.ax_step_log.proofs.AppendKept.{IsTaken, holds, within-held, number-held, takes-held, fill-taken, kept-taken, kept-released}
+use Rattle.ax_step_log.proofs.Sends.{desk-is}
+use Rattle.ax_values.specs.declared.cell.Cell.{Cell}
+use Rattle.ax_values.specs.declared.record.Record.{Record}
+use Rattle.ax_log.specs.declared.put.CellPut.{CellPut}
+use Rattle.ax_journal.specs.declared.reply.Reply.{Reply}
+use Rattle.ax_world.specs.declared.edit.Edit.{Edit}
+
+-- ---- the reservation of a desk
+
+-- a desk's reservation, if any, has its cells in the log
+pub older-within : (w : Whole) (actor : ℕ) (d : Desk) → IsWorld w → slice_get w.desks actor ≡ Some d → IfSome d.reservation (λ r. r.first + length r.records ≤ length w.cells)
+older-within w actor d h e = at d.reservation refl
+  where
+    at : (o : Option Reservation) → d.reservation ≡ o → IfSome o (λ r. r.first + length r.records ≤ length w.cells)
+    at None k = tt
+    at (Some r) k = within-held w.cells (name_at w.setting.actors actor) r (holds (state_of w) actor d r e k h.state)
+
+-- ---- both ends
+
+-- the edits that put cells, and empty the reservation of the desk
+state-emptied : (w : Whole) (actor : ℕ) (puts : List CellPut) (later : List Cell) (old new : Desk) → slice_get w.desks actor ≡ Some old → put_all puts w.cells ≡ later → new ≡ record old { reservation = None }
+    → state_of (made_all (Edit.Cells puts ∷ Edit.SetDesk actor new ∷ []) w) ≡ with_reservation actor None (with_cells later (state_of w))
+state-emptied w actor puts later old new desk cells new_is =
+    ap₂ (λ (cs : List Cell) (d : Desk). record (state_of w) { cells = cs; desks = slice_set w.desks actor d }) cells (new_is ∙ ap (λ (d : Desk). record d { reservation = None }) (sym (desk-is w actor old desk)))
+
+-- ---- the events are in the log
+
+covered-taken : (setting : Setting) (a : Name) (cells later : List Cell) → Fills (Own a) cells later → (n : ℕ) (xs : List Place) → AllFrom (IsPlace setting cells) n (map (λ x. x.shelf) xs)
+    → AllFrom (λ q x. covered_events (portions x.shelf.rows) (events later) ≡ covered_events (portions x.shelf.rows) (events cells)) n xs
+covered-taken setting a cells later f n [] h = tt
+covered-taken setting a cells later f n (x ∷ xs) h = (fills-covered (Own a) cells later (portions x.shelf.rows) f h.0.tokens, covered-taken setting a cells later f (suc n) xs h.1)
+
+pub move-taken : (w : Whole) (actor : ℕ) (r : Reservation) (seq count : ℕ) (puts : List CellPut) (old new : Desk) → IsWorld w → slice_get w.desks actor ≡ Some old → old.reservation ≡ Some r → GoesOn w.cells r.first r.records
+    → puts ≡ puts_at r.first (map Cell.Event r.records) → CanPutAll w.cells puts → new ≡ record old { reservation = None } → seq ≡ r.first_seq → count ≡ length r.records
+    → IsMove w (appended_unless (state_of w) actor r (void_among w.cells r.first r.records)) (record { edits = Edit.Cells puts ∷ Edit.SetDesk actor new ∷ []; reply = Reply.Appended seq count; report = [] })
+move-taken w actor r seq count puts old new h desk has goes puts_are can new_is seq_is count_is =
+    subst (λ (v : Option ℕ). IsMove w (appended_unless (state_of w) actor r v) (record { edits = Edit.Cells puts ∷ Edit.SetDesk actor new ∷ []; reply = reply; report = [] })) (sym goes.clear)
+    (subst (λ (b : Bool). IsMove w (if b then done else answer (with_reservation actor None (with_cells (released (Some r) w.cells) (state_of w))) (Reply.Conflict r.first_seq (length_of (aggregate_of r.records) w.cells))) (record { edits = Edit.Cells puts ∷ Edit.SetDesk actor new ∷ []; reply = reply; report = [] })) (sym same)
+    (moved w (Edit.Cells puts ∷ Edit.SetDesk actor new ∷ []) done reply h (omega arith) (can, (slice_get_within w.desks actor old desk, tt)) (state-emptied w actor puts later old new desk cells new_is)
+    (kept-taken (state_of w) actor old r taken h.state) refl tables (ap₂ Reply.Appended seq_is count_is) refl))
+  where
+    mine : IsReservation w.cells (name_at w.setting.actors actor) r
+    mine = holds (state_of w) actor old r desk has h.state
+
+    next : length_of (aggregate_of r.records) w.cells ≡ r.first_seq
+    next = goes.next ∙ number-held w.cells (name_at w.setting.actors actor) r mine
+
+    taken : IsTaken (state_of w) actor old r
+    taken = record { desk = desk; has = has; clear = goes.clear; next = next }
+
+    later : List Cell
+    later = put_cells r.first (map Cell.Event r.records) w.cells
+
+    reply : Reply
+    reply = Reply.Appended seq count
+
+    done : Answer
+    done = answer (with_reservation actor None (with_cells later (state_of w))) (Reply.Appended r.first_seq (length r.records))
+
+    same : (length_of (aggregate_of r.records) w.cells == r.first_seq) ≡ true
+    same = grind (arith, nat_tests, next)
+
+    cells : put_all puts w.cells ≡ later
+    cells = ap (λ (ps : List CellPut). put_all ps w.cells) puts_are
+        ∙ put_all-puts_at (map Cell.Event r.records) r.first w.cells (let le : r.first + length r.records ≤ length w.cells = within-held w.cells (name_at w.setting.actors actor) r mine in omega arith)
+
+    fill : IsFill (aggregate_of r.records) r.first r.records w.cells
+    fill = fill-taken (state_of w) actor old r taken h.state
+
+    tables : AllFrom (IsTable w.setting (events (put_all puts w.cells))) 0 w.places
+    tables = subst (λ (cs : List Cell). AllFrom (IsTable w.setting (events cs)) 0 w.places) (sym cells)
+        (tables-kept w.setting (events w.cells) (events later) 0 w.places
+        (covered-taken w.setting (aggregate_of r.records) w.cells later (fills-put (Own (aggregate_of r.records)) r.first r.records w.cells fill.ready fill.own) 0 w.places h.state.places) h.tables)
+
+-- ---- a conflict
+
+pub move-conflict : (w : Whole) (actor : ℕ) (r : Reservation) (expected found told_first told_length : ℕ) (puts : List CellPut) (old new : Desk) → IsWorld w → slice_get w.desks actor ≡ Some old → old.reservation ≡ Some r
+    → IsConflict w.cells r.first r.records expected found → puts ≡ release_puts w.cells (Some r) → new ≡ record old { reservation = None } → told_first ≡ expected → told_length ≡ found
+    → IsMove w (appended_unless (state_of w) actor r (void_among w.cells r.first r.records)) (record { edits = Edit.Cells puts ∷ Edit.SetDesk actor new ∷ []; reply = Reply.Conflict told_first told_length; report = [] })
+move-conflict w actor r expected found told_first told_length puts old new h desk has conflict puts_are new_is first_is length_is =
+    subst (λ (v : Option ℕ). IsMove w (appended_unless (state_of w) actor r v) (record { edits = Edit.Cells puts ∷ Edit.SetDesk actor new ∷ []; reply = Reply.Conflict told_first told_length; report = [] })) (sym conflict.clear)
+    (subst (λ (b : Bool). IsMove w (if b then answer (with_reservation actor None (with_cells (put_cells r.first (map Cell.Event r.records) w.cells) (state_of w))) (Reply.Appended r.first_seq (length r.records)) else done) (record { edits = Edit.Cells puts ∷ Edit.SetDesk actor new ∷ []; reply = Reply.Conflict told_first told_length; report = [] })) (sym differ)
+    (moved w (Edit.Cells puts ∷ Edit.SetDesk actor new ∷ []) done (Reply.Conflict told_first told_length) h (omega arith) (subst (CanPutAll w.cells) (sym puts_are) (can-release (Some r) w.cells h.state.log), (slice_get_within w.desks actor old desk, tt))
+    (state-emptied w actor puts (released (Some r) w.cells) old new desk cells new_is) (kept-released (state_of w) actor (Some r) h.state) refl tables (ap₂ Reply.Conflict (first_is ∙ first) (length_is ∙ conflict.found_is)) refl))
+  where
+    first : expected ≡ r.first_seq
+    first = conflict.expected_is ∙ number-held w.cells (name_at w.setting.actors actor) r (holds (state_of w) actor old r desk has h.state)
+
+    done : Answer
+    done = answer (with_reservation actor None (with_cells (released (Some r) w.cells) (state_of w))) (Reply.Conflict r.first_seq (length_of (aggregate_of r.records) w.cells))
+
+    unlike : (b : Bool) → (length_of (aggregate_of r.records) w.cells == r.first_seq) ≡ b → b ≡ false
+    unlike false e = refl
+    unlike true e =
+        let is : length_of (aggregate_of r.records) w.cells ≡ r.first_seq = grind (arith, nat_tests, e) in absurd (conflict.differ (conflict.found_is ∙ is ∙ sym first))
+
+    differ : (length_of (aggregate_of r.records) w.cells == r.first_seq) ≡ false
+    differ = unlike (length_of (aggregate_of r.records) w.cells == r.first_seq) refl
+
+    cells : put_all puts w.cells ≡ released (Some r) w.cells
+    cells = ap (λ (ps : List CellPut). put_all ps w.cells) puts_are ∙ put-release (Some r) w.cells
+
+    tables : AllFrom (IsTable w.setting (events (put_all puts w.cells))) 0 w.places
+    tables = subst (λ (xs : List Stored). AllFrom (IsTable w.setting xs) 0 w.places) (sym (ap (λ (cs : List Cell). events cs) cells ∙ events-released (Some r) w.cells)) h.tables
+
+-- what is said of the cells and records that were passed is said of those that are meant
+pub passed : (P : List Cell → ℕ → List Record → Type 0) (cells later : List Cell) (first place : ℕ) (rs records : List Record) → cells ≡ later → first ≡ place → rs ≡ records → P cells first rs → P later place records
+passed P cells later first place rs records c f r h = subst (λ (cs : List Cell). P cs place records) c (subst (λ (i : ℕ). P cells i records) f (subst (λ (xs : List Record). P cells first xs) r h))
+
+pub has-cells : (cells : List Cell) (actor : Name) (r : Reservation) → IsReservation cells actor r → HasCells cells r.first r.records
+has-cells cells actor r h = inl (takes-held cells actor r h)
+
+pub voids-of : (cells later : List Cell) (first place n m : ℕ) → cells ≡ later → first ≡ place → n ≡ m → void_puts cells first n ≡ void_puts later place m
+voids-of cells later first place n m c f k = rw (c, f, k) refl

@@ -1,0 +1,148 @@
+-- Folds of covered items, and what the items of a batch add to them.
+use Rattle.std.proofs.Common.{◌≡◌, ℕ, ◌&&◌, Bool, true, false, not, List, [], ◌∷◌, ◌++◌, map, length, filter, take, Option, None, Result, Ok, Err, if◌then◌else◌, append_assoc, refl, sym, ap, ◌∙◌, subst, arith}
+use Rattle.std.specs.Prelude.{IsOk}
+use Rattle.std.specs.List.{AllByRecursion, list_all}
+use Rattle.std.proofs.lemmas.List.{take_all, append-nil}
+use Rattle.std.proofs.lemmas.Slice.Eq.{bytes_eq-Decides}
+use Rattle.ax_values.specs.Grammar.{Name}
+use Rattle.ax_values.proofs.Options.{both}
+use Rattle.ax_log.specs.Log.{Stored, is_of, stream_in}
+use Rattle.ax_rules.specs.Expr.{Row}
+use Rattle.ax_rules.specs.Rules.{Rules, and_then, applied, fold_from, fold_items}
+use Rattle.ax_projections.specs.Items.{Placed, plain_items}
+use Rattle.ax_state.specs.Positions.{undropped}
+use Rattle.ax_state.specs.Portions.{items_in, row_by}
+use Rattle.ax_state.specs.WellFormed.{is_prefix_test}
+use Rattle.ax_step_work.specs.Working.{Failure, failure_or, first_failure, row_behind, share_of, is_item_of}
+use Rattle.ax_values.specs.declared.item.Item.{Item}
+use Rattle.ax_rules.specs.declared.cause.Cause.{Cause}
+use Rattle.ax_upcast.specs.declared.upcaster.Upcaster.{Upcaster}
+
+-- ---- filters
+
+swap-by : {A : Type 0} (f g : A → Bool) (x : A) (xs ys zs : List A) (a b : Bool) → f x ≡ a → g x ≡ b → filter f ys ≡ filter g zs → filter f (if b then x ∷ ys else ys) ≡ filter g (if a then x ∷ zs else zs)
+swap-by f g x xs ys zs true true e k h = ap (λ c. if c then x ∷ filter f ys else filter f ys) e ∙ ap (λ ws. x ∷ ws) h ∙ sym (ap (λ c. if c then x ∷ filter g zs else filter g zs) k)
+swap-by f g x xs ys zs true false e k h = h ∙ sym (ap (λ c. if c then x ∷ filter g zs else filter g zs) k)
+swap-by f g x xs ys zs false true e k h = ap (λ c. if c then x ∷ filter f ys else filter f ys) e ∙ h
+swap-by f g x xs ys zs false false e k h = h
+
+pub filter-swap : {A : Type 0} (f g : A → Bool) (xs : List A) → filter f (filter g xs) ≡ filter g (filter f xs)
+filter-swap f g [] = refl
+filter-swap f g (x ∷ xs) = swap-by f g x xs (filter g xs) (filter f xs) (f x) (g x) refl refl (filter-swap f g xs)
+
+pub filter-same : {A : Type 0} (f g : A → Bool) (xs : List A) → AllByRecursion (λ x. f x ≡ g x) xs → filter f xs ≡ filter g xs
+filter-same f g [] h = refl
+filter-same f g (x ∷ xs) h = ap (λ b. if b then x ∷ filter f xs else filter f xs) h.0 ∙ ap (λ ys. if g x then x ∷ ys else ys) (filter-same f g xs h.1)
+
+-- the events of a stream are of its aggregate
+own-by : (b : Bool) (a : Name) (e : Stored) (es : List Stored) → is_of a e ≡ b → AllByRecursion (λ e. e.record_of.aggregate ≡ a) es → AllByRecursion (λ e. e.record_of.aggregate ≡ a) (if b then e ∷ es else es)
+own-by true a e es k h = ((bytes_eq-Decides e.record_of.aggregate a).0 k, h)
+own-by false a e es k h = h
+
+pub stream-own : (a : Name) (es : List Stored) → AllByRecursion (λ e. e.record_of.aggregate ≡ a) (stream_in a es)
+stream-own a [] = tt
+stream-own a (e ∷ es) = own-by (is_of a e) a e (stream_in a es) refl (stream-own a es)
+
+module _ (a : Name) (t : Name → ℕ → Bool) where
+  all-same : (es : List Stored) → AllByRecursion (λ e. e.record_of.aggregate ≡ a) es → AllByRecursion (λ e. t e.record_of.aggregate e.index ≡ t a e.index) es
+  all-same [] h = tt
+  all-same (e ∷ es) h = (ap (λ n. t n e.index) h.0, all-same es h.1)
+
+  -- of the events that pass, those of an aggregate
+  pub stream-filter : (es : List Stored) → stream_in a (filter (λ e. t e.record_of.aggregate e.index) es) ≡ filter (λ e. t a e.index) (stream_in a es)
+  stream-filter es =
+      filter-swap (is_of a) (λ e. t e.record_of.aggregate e.index) es
+      ∙ filter-same (λ e. t e.record_of.aggregate e.index) (λ e. t a e.index) (stream_in a es) (all-same (stream_in a es) (stream-own a es))
+
+-- ---- more is covered
+
+none-pass : (old : ℕ → Bool) (es : List Stored) → list_all not (map (λ e. old e.index) es) ≡ true → filter (λ e. old e.index) es ≡ []
+none-pass old [] h = refl
+none-pass old (e ∷ es) h =
+    let k = both (not (old e.index)) (list_all not (map (λ e. old e.index) es)) h in
+    ap (λ b. if b then e ∷ filter (λ e. old e.index) es else filter (λ e. old e.index) es) (fails (old e.index) k.0) ∙ none-pass old es k.1
+  where
+    fails : (c : Bool) → not c ≡ true → c ≡ false
+    fails true h = absurd (cc)
+    fails false h = refl
+
+fresh-same : (old new : ℕ → Bool) (es : List Stored) → list_all not (map (λ e. old e.index) es) ≡ true → AllByRecursion (λ e. new e.index ≡ (new e.index && not (old e.index))) es
+fresh-same old new [] h = tt
+fresh-same old new (e ∷ es) h =
+    let k = both (not (old e.index)) (list_all not (map (λ e. old e.index) es)) h in
+    (sym (ap (λ c. new e.index && c) k.0 ∙ and-true (new e.index)), fresh-same old new es k.1)
+  where
+    and-true : (c : Bool) → (c && true) ≡ c
+    and-true true = refl
+    and-true false = refl
+
+split-by : (old new : ℕ → Bool) (e : Stored) (es : List Stored) (b : Bool) → old e.index ≡ b → ((i : ℕ) → old i ≡ true → new i ≡ true) → is_prefix_test (b ∷ map (λ e. old e.index) es) ≡ true
+    → (is_prefix_test (map (λ e. old e.index) es) ≡ true → filter (λ e. new e.index) es ≡ filter (λ e. old e.index) es ++ filter (λ e. new e.index && not (old e.index)) es)
+    → filter (λ e. new e.index) (e ∷ es) ≡ filter (λ e. old e.index) (e ∷ es) ++ filter (λ e. new e.index && not (old e.index)) (e ∷ es)
+split-by old new e es true k more h again =
+    ap (λ b. if b then e ∷ filter (λ e. new e.index) es else filter (λ e. new e.index) es) (more e.index k)
+    ∙ ap (λ ys. e ∷ ys) (again h)
+    ∙ sym (ap (λ b. (if b then e ∷ filter (λ e. old e.index) es else filter (λ e. old e.index) es) ++ filter (λ e. new e.index && not (old e.index)) (e ∷ es)) k
+    ∙ ap (λ b. (e ∷ filter (λ e. old e.index) es) ++ (if b then e ∷ filter (λ e. new e.index && not (old e.index)) es else filter (λ e. new e.index && not (old e.index)) es)) (ap (λ c. new e.index && not c) k ∙ and-false (new e.index)))
+  where
+    and-false : (c : Bool) → (c && false) ≡ false
+    and-false true = refl
+    and-false false = refl
+split-by old new e es false k more h again =
+    let none : list_all not (map (λ e. old e.index) (e ∷ es)) ≡ true = ap (λ b. not b && list_all not (map (λ e. old e.index) es)) k ∙ h in
+    filter-same (λ e. new e.index) (λ e. new e.index && not (old e.index)) (e ∷ es) (fresh-same old new (e ∷ es) none)
+    ∙ ap (λ ys. ys ++ filter (λ e. new e.index && not (old e.index)) (e ∷ es)) (sym (none-pass old (e ∷ es) none))
+
+-- behind a prefix stands what is new
+pub covered-split : (old new : ℕ → Bool) (es : List Stored) → ((i : ℕ) → old i ≡ true → new i ≡ true) → is_prefix_test (map (λ e. old e.index) es) ≡ true
+    → filter (λ e. new e.index) es ≡ filter (λ e. old e.index) es ++ filter (λ e. new e.index && not (old e.index)) es
+covered-split old new [] more h = refl
+covered-split old new (e ∷ es) more h = split-by old new e es (old e.index) refl more h (covered-split old new es more)
+
+-- ---- rows
+
+undropped-none : (xs : List Placed) → undropped [] xs ≡ xs
+undropped-none [] = refl
+undropped-none (x ∷ xs) = ap (λ ys. x ∷ ys) (undropped-none xs)
+
+-- without letters and drops a row is the fold of all covered items
+pub row-now : (rules : Rules) (chain : List Upcaster) (cs : List Stored) (a : Name) → row_by rules chain cs None [] a ≡ fold_items rules (plain_items (items_in chain cs a))
+row-now rules chain cs a = ap (λ xs. fold_items rules (plain_items xs)) (undropped-none (take (length (items_in chain cs a)) (items_in chain cs a)) ∙ take_all (length (items_in chain cs a)) (items_in chain cs a) (omega arith))
+
+pub fold-append : (rules : Rules) (xs ys : List Item) (row : Row) → fold_from rules (xs ++ ys) row ≡ and_then (fold_from rules xs row) (λ r. fold_from rules ys r)
+fold-append rules [] ys row = refl
+fold-append rules (x ∷ xs) ys row = at (applied rules row x) (λ r. fold-append rules xs ys r)
+  where
+    at : (o : Result Row Cause) → ((r : Row) → fold_from rules (xs ++ ys) r ≡ and_then (fold_from rules xs r) (λ r. fold_from rules ys r))
+        → and_then o (λ next. fold_from rules (xs ++ ys) next) ≡ and_then (and_then o (λ next. fold_from rules xs next)) (λ r. fold_from rules ys r)
+    at (Err c) again = refl
+    at (Ok r) again = again r
+
+-- ---- no failure
+
+share-append : (a : Name) (xs ys : List Placed) → share_of a (xs ++ ys) ≡ share_of a xs ++ share_of a ys
+share-append a [] ys = refl
+share-append a (x ∷ xs) ys =
+    elim (is_item_of a x) as (λ b. (if b then x ∷ share_of a (xs ++ ys) else share_of a (xs ++ ys)) ≡ (if b then x ∷ share_of a xs else share_of a xs) ++ share_of a ys)
+    [ true ↦ ap (λ zs. x ∷ zs) (share-append a xs ys) | false ↦ share-append a xs ys ]
+
+module _ (rules : Rules) (row : Name → Row) where
+  abbrev Behind : List Placed → Type 0
+  Behind xs = (a : Name) → IsOk (row_behind rules row xs a)
+
+  next-by : (before : List Placed) (x : Placed) (a : Name) (b : Bool) → is_item_of a x ≡ b → IsOk (row_behind rules row (before ++ x ∷ []) x.item.name.aggregate) → Behind before → IsOk (row_behind rules row (before ++ x ∷ []) a)
+  next-by before x a true e ok all = subst (λ n. IsOk (row_behind rules row (before ++ x ∷ []) n)) ((bytes_eq-Decides x.item.name.aggregate a).0 e) ok
+  next-by before x a false e ok all =
+      let same : share_of a (before ++ x ∷ []) ≡ share_of a before = share-append a before (x ∷ []) ∙ ap (λ b. share_of a before ++ (if b then x ∷ [] else [])) e ∙ append-nil (share_of a before) in
+      subst (λ xs. IsOk (fold_from rules (plain_items xs) (row a))) (sym same) (all a)
+
+  no-by : (x : Placed) (later : Option Failure) (o : Result Row Cause) → failure_or x.item.name later o ≡ None → (later ≡ None) × IsOk o
+  no-by x later (Ok r) h = (h, refl)
+  no-by x later (Err c) h = absurd (cc)
+
+  -- where none fails, each aggregate's items apply
+  pub no-failure : (xs before : List Placed) → first_failure rules row before xs ≡ None → Behind before → Behind (before ++ xs)
+  no-failure [] before h all = subst Behind (sym (append-nil before)) all
+  no-failure (x ∷ xs) before h all =
+      let k = no-by x (first_failure rules row (before ++ x ∷ []) xs) (row_behind rules row (before ++ x ∷ []) x.item.name.aggregate) h in
+      subst Behind (append_assoc before (x ∷ []) xs) (no-failure xs (before ++ x ∷ []) k.0 (λ a. next-by before x a (is_item_of a x) refl k.1 all))

@@ -1,0 +1,110 @@
+ghost use Rattle.std.specs.Prelude.{◌≡◌, ℕ, ◌<◌, ◌≤◌, length, filter, nat_le, IfOk};
+ghost use Rattle.ax_log.specs.Log.{events};
+ghost use Rattle.ax_log.specs.Order.{max_cells};
+ghost use Rattle.ax_tokens.specs.Nodes.{token_of};
+ghost use Rattle.ax_tokens.specs.Tokens.{gaps_fit, max_gaps};
+ghost use Rattle.ax_step_work.specs.Working.{is_new, new_below, is_fetched, fetched_token};
+
+use ax_segments::{Segment, hash_of};
+use ax_tokens::{Plain, Token};
+use ax_values::{Cell, NoMemory, Record};
+use std::alloc::Global;
+
+/// How many gaps a plain part of a token may have.
+const MAX_GAPS: usize = 1000;
+
+/// Whether the event, at its index, is of the segment and the token does not cover it.
+fn is_new(segment: Segment, token: &Token, index: u32, event: &Record) -> bool
+    ensures { result ≡ is_new segment (token_of token.now) (record { index = index; record_of = event.now }) }
+{
+    let hash = hash_of(event.aggregate.parts());
+    segment.matches(hash) && !token.covers(segment, hash, index)
+}
+
+/// Whether the event, at its index, is of the segment, and the new token covers it and the old one does not.
+pub(crate) fn is_fetched(
+    segment: Segment,
+    old: &Token,
+    new: &Token,
+    index: u32,
+    event: &Record,
+) -> bool
+    ensures { result ≡ is_fetched segment (token_of old.now) (token_of new.now) (record { index = index; record_of = event.now }) }
+{
+    let hash = hash_of(event.aggregate.parts());
+    segment.matches(hash) && (new.covers(segment, hash, index) && !old.covers(segment, hash, index))
+}
+
+fn few_gaps(part: &Plain) -> bool
+    ensures { result ≡ nat_le (length part.now.gaps) max_gaps }
+{
+    part.gaps().len() <= MAX_GAPS
+}
+
+/// Whether no plain part has more than 1,000 gaps.
+fn gaps_fit(token: &Token) -> bool
+    ensures { result ≡ gaps_fit (token_of token.now) }
+{
+    match token {
+        Token::Plain(part) => few_gaps(part),
+        Token::Merged(lower, upper) => gaps_fit(lower.get()) && gaps_fit(upper.get()),
+        Token::Replay { at_reset, current } => few_gaps(at_reset) && few_gaps(current),
+    }
+}
+
+/// The largest bound, at most the log's length, below which at most so many events are new.
+fn bound_of(segment: Segment, token: &Token, cells: &[Cell], most: u32) -> u32
+    requires { length cells.now ≤ max_cells }
+    ensures within { result ≤ length cells.now }
+    ensures few { length (new_below segment (token_of token.now) (events cells.now) result) ≤ most }
+    ensures above { (b : ℕ) → result < b → b ≤ length cells.now → most < length (new_below segment (token_of token.now) (events cells.now) b) }
+{
+    let mut count = 0;
+    for (index, cell) in cells.iter().enumerate() {
+        if let Cell::Event(event) = cell {
+            if is_new(segment, token, index as u32, event) {
+                if count == most {
+                    return index as u32;
+                }
+                count += 1;
+            }
+        }
+    }
+    cells.len() as u32
+}
+
+/// The token advanced as far as a fetch of at most so many records goes.
+pub(crate) fn fetched_token(
+    alloc: Global,
+    segment: Segment,
+    token: &Token,
+    cells: &[Cell],
+    most: u32,
+) -> Result<Token, NoMemory>
+    requires { length cells.now ≤ max_cells }
+    ensures { IfOk result (λ new. token_of new ≡ fetched_token segment (token_of token.now) cells.now most) }
+{
+    let mut bound = bound_of(segment, token, cells, most);
+    let mut new = token.advance(alloc, cells, bound)?;
+    while bound > 0 && !gaps_fit(&new) {
+        bound -= 1;
+        new = token.advance(alloc, cells, bound)?;
+    }
+    new.collapse(alloc)
+}
+
+/// How many of the events are of the segment, covered by the new token and not by the old one.
+pub(crate) fn count_fetched(segment: Segment, old: &Token, new: &Token, cells: &[Cell]) -> u32
+    requires { length cells.now ≤ max_cells }
+    ensures { result ≡ length (filter (is_fetched segment (token_of old.now) (token_of new.now)) (events cells.now)) }
+{
+    let mut count = 0;
+    for (index, cell) in cells.iter().enumerate() {
+        if let Cell::Event(event) = cell {
+            if is_fetched(segment, old, new, index as u32, event) {
+                count += 1;
+            }
+        }
+    }
+    count
+}

@@ -1,0 +1,74 @@
+ghost use Rattle.std.specs.Prelude.{◌≡◌, ◌<◌, length, Some, IfOk, IsTrue};
+ghost use Rattle.ax_claims.specs.Rows.{row_at};
+ghost use Rattle.ax_state.specs.Setting.{is_projection};
+ghost use Rattle.ax_state.specs.State.{desk_at};
+ghost use Rattle.ax_state.specs.Holding.{held_fence};
+ghost use Rattle.ax_world.specs.Whole.{state_of, place_at};
+ghost use Rattle.ax_world.specs.Moves.{IsMove};
+ghost use Rattle.ax_step_work.specs.Working.{fetch_at, fetched, batch_of};
+
+use crate::bound::{count_fetched, fetched_token};
+use crate::held::{held_check, held_fence};
+use ax_claims::TokenRow;
+use ax_journal::Reply;
+use ax_segments::Segment;
+use ax_values::{Duplicate, NoMemory};
+use ax_world::{Batch, Edit, Edits, Move, World};
+use std::alloc::Global;
+
+/// Puts a batch of at most so many records on the actor's desk.
+pub(crate) fn fetch(
+    alloc: Global,
+    world: &World,
+    actor: u32,
+    processor: u32,
+    segment: Segment,
+    most: u32,
+) -> Result<Move, NoMemory>
+    requires projection { IsTrue (is_projection world.now.whole.setting processor) }
+    requires actor { actor < length world.now.whole.setting.actors }
+    ensures { IfOk result (IsMove world.now.whole (fetch_at (state_of world.now.whole) actor processor segment most)) }
+{
+    // what the log tells of its world: that it is well-formed
+    let _ = world.log();
+    let held = held_fence(world.desk(actor).held.parts(), processor, segment);
+    let row = world.rows(processor).get(segment);
+    if let Some(refusal) = held_check(held, row) {
+        return Ok(Move::without_edits(alloc, refusal));
+    }
+    match row {
+        Some(row) => fetch_row(alloc, world, actor, processor, row, most),
+        None => Ok(Move::without_edits(alloc, Reply::NoSegment)),
+    }
+}
+
+/// Puts the batch of a row, whose fence the actor holds, on its desk.
+fn fetch_row(
+    alloc: Global,
+    world: &World,
+    actor: u32,
+    processor: u32,
+    row: &TokenRow,
+    most: u32,
+) -> Result<Move, NoMemory>
+    requires projection { IsTrue (is_projection world.now.whole.setting processor) }
+    requires actor { actor < length world.now.whole.setting.actors }
+    requires found { row_at row.now.segment (place_at world.now.whole processor).shelf.rows ≡ Some row.now }
+    requires held { held_fence processor row.now.segment (desk_at (state_of world.now.whole) actor).held ≡ Some row.now.fence }
+    ensures { IfOk result (IsMove world.now.whole (fetched (state_of world.now.whole) actor (batch_of (state_of world.now.whole) processor row.now.segment most row.now))) }
+{
+    let cells = world.log().cells();
+    let new = fetched_token(alloc, row.segment, &row.token, cells, most)?;
+    let records = count_fetched(row.segment, &row.token, &new, cells);
+    let batch = Batch {
+        processor,
+        segment: row.segment,
+        fence: row.fence,
+        old: row.token.copy(alloc)?,
+        new,
+    };
+    let desk = world.desk(actor).with_batch(alloc, Some(batch))?;
+    let mut edits = Edits::new(alloc);
+    edits.push(Edit::SetDesk { actor, desk })?;
+    Ok(Move::of(alloc, edits, Reply::Fetched { records }))
+}

@@ -1,0 +1,47 @@
+ghost use Rattle.std.specs.Prelude.{◌≡◌, option_map};
+ghost use Rattle.std.specs.Option.{option_copied};
+ghost use Rattle.ax_state.specs.Holding.{is_held_at, held_fence, held_check};
+
+use ax_claims::TokenRow;
+use ax_journal::Reply;
+use ax_segments::Segment;
+use ax_world::Held;
+
+fn is_held_at(held: &Held, processor: u32, segment: Segment) -> bool
+    ensures { result ≡ is_held_at processor segment held.now }
+{
+    held.processor == processor && held.segment == segment
+}
+
+/// The fence that is held for a segment of the processor.
+pub(crate) fn held_fence(held: &[Held], processor: u32, segment: Segment) -> Option<u64>
+    ensures { result ≡ held_fence processor segment held.now }
+{
+    match held
+        .iter()
+        .find(|fence| is_held_at(fence, processor, segment))
+    {
+        Some(found) => Some(found.fence),
+        None => None,
+    }
+}
+
+/// Why an order on a held segment is refused, where it is: there is no row, or it has another fence than the one held,
+/// or none is held.
+pub(crate) fn held_check(held: Option<u64>, row: Option<&TokenRow>) -> Option<Reply>
+    ensures { result ≡ held_check held (option_copied row.entry) }
+{
+    match (held, row) {
+        (None, None) => Some(Reply::NoSegment),
+        (None, Some(_)) => Some(Reply::NotHeld),
+        (Some(held), None) => Some(Reply::Stale { held, found: None }),
+        (Some(held), Some(row)) => {
+            if row.fence == held {
+                None
+            } else {
+                let found = Some(row.fence);
+                Some(Reply::Stale { held, found })
+            }
+        }
+    }
+}
