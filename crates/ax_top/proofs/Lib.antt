@@ -1,1 +1,2 @@
 pub mod HeadlineLaws
+mod WorkedRows
