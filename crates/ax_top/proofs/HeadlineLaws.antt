@@ -1,30 +1,32 @@
 -- From the answer that was given to the clauses of the program's call.
-use Rattle.std.proofs.Common.{◌≡◌, ◌<◌, ◌+◌, ℕ, true, false, List, [], length, replicate, Option, Some, None, Result, Ok, Err, MatchResult, refl, sym, ap, subst, ◌∙◌, arith}
+use Rattle.std.proofs.Common.{◌≡◌, ◌<◌, ◌+◌, ℕ, true, List, [], length, replicate, Option, Some, None, Result, Ok, Err, MatchResult, refl, sym, ap, subst, ◌∙◌, arith}
 use Rattle.std.specs.Prelude.{IfSome, IfOk, nat_lt}
 use Rattle.std.specs.Io.KnownBytes.{Keeps}
 use Rattle.std.proofs.lemmas.Bool.Decides.{nat_tests}
 use Rattle.ax_values.specs.declared.memory.NoMemory.{NoMemory}
-use Rattle.ax_top.specs.declared.plan.ScriptKind.TheVariants.{Long}
+use Rattle.ax_journal.specs.Form.{is_built}
+use Rattle.ax_script.specs.declared.kind.ScriptKind.{ScriptKind}
+use Rattle.ax_script.specs.Reading.{most_bytes, unless_long, wrong, script_in}
 use Rattle.ax_top.specs.declared.status.Status.{Status}
 use Rattle.ax_top.specs.declared.status.Status.TheVariants.{Done, Usage, Script, ReadFault, WriteFault, KeeperFault, BadRows, OtherSheet, Memory}
-use Rattle.ax_top.specs.Script.{most_bytes, fault, script_of}
-use Rattle.ax_top.specs.Run.{Answer, is_run, usage_text, script_answer, answer}
+use Rattle.ax_top.specs.declared.task.Task.{Task}
+use Rattle.ax_top.specs.Run.{Answer, task_of, usage_text, fault_answer, script_answer, words_answer, answer}
 use Rattle.ax_top.specs.declared.answer.Answered.{Answered}
 use Rattle.ax_top.specs.Answered.{answer_of}
 use Rattle.std.proofs.lemmas.List.{length-replicate}
 use Rattle.ax_top.specs.Headline.{Given, Answers, IsDelivered}
 
-pub answer-usage : (words : List (List ℕ)) (bytes : List ℕ) → is_run words ≡ false → answer words bytes ≡ record { status = Usage; text = usage_text }
+pub answer-usage : (words : List (List ℕ)) (bytes : List ℕ) → task_of words ≡ None → answer words bytes ≡ record { status = Usage; text = usage_text }
 unfolding answer
-answer-usage words bytes no_run = rw no_run refl
+answer-usage words bytes none = ap (λ o. words_answer o bytes) none
 
-pub answer-run : (words : List (List ℕ)) (bytes : List ℕ) → is_run words ≡ true → answer words bytes ≡ script_answer (script_of bytes)
+pub answer-task : (words : List (List ℕ)) (task : Task) (bytes : List ℕ) → task_of words ≡ Some task → answer words bytes ≡ script_answer task (script_in is_built bytes)
 unfolding answer
-answer-run words bytes run = rw run refl
+answer-task words task bytes found = ap (λ o. words_answer o bytes) found
 
-pub script_of-long : (bytes : List ℕ) → most_bytes < length bytes → script_of bytes ≡ fault 0 Long
-unfolding script_of
-script_of-long bytes long = let e : nat_lt most_bytes (length bytes) ≡ true = grind (arith, nat_tests) in rw e refl
+pub script_in-long : (bytes : List ℕ) → most_bytes < length bytes → script_in is_built bytes ≡ Err (wrong 0 ScriptKind.Long)
+unfolding script_in
+script_in-long bytes long = let e : nat_lt most_bytes (length bytes) ≡ true = grind (arith, nat_tests) in ap (λ b. unless_long b is_built bytes) e
 
 -- the status of a message is its own
 pub given-usage : (s : Status) (text : List ℕ) (old new : Option (List ℕ)) (before now : ℕ) → IsDelivered s → Given (record { status = Usage; text = text }) s old new before now → s ≡ Usage
@@ -78,20 +80,20 @@ answered-read_fault words left taken count = (told left, told-is left, keeps-sam
 pub answered-memory : (words : List (List ℕ)) (left taken : Option (List ℕ)) (count : ℕ) → Answers words left Memory taken taken count count
 answered-memory words left taken count = (told left, told-is left, keeps-same taken)
 
-pub answered-usage : (words : List (List ℕ)) (left : Option (List ℕ)) (s : Status) (old new : Option (List ℕ)) (before now : ℕ) → is_run words ≡ false
+pub answered-usage : (words : List (List ℕ)) (left : Option (List ℕ)) (s : Status) (old new : Option (List ℕ)) (before now : ℕ) → task_of words ≡ None
     → Given (record { status = Usage; text = usage_text }) s old new before now → Answers words left s old new before now
-answered-usage words left s old new before now no_run g =
-    (told left, told-is left, subst (λ (a : Answer). Given a s old new before now) (sym (answer-usage words (told left) no_run)) g)
+answered-usage words left s old new before now none g =
+    (told left, told-is left, subst (λ (a : Answer). Given a s old new before now) (sym (answer-usage words (told left) none)) g)
 
-pub answered-script : (words : List (List ℕ)) (left : Option (List ℕ)) (all : List ℕ) (r : Result Answered NoMemory) (s : Status) (old new : Option (List ℕ)) (before now : ℕ) → is_run words ≡ true
-    → IfSome left (λ bytes. bytes ≡ all) → IfOk r (λ x. answer_of x ≡ script_answer (script_of all))
+pub answered-script : (words : List (List ℕ)) (task : Task) (left : Option (List ℕ)) (all : List ℕ) (r : Result Answered NoMemory) (s : Status) (old new : Option (List ℕ)) (before now : ℕ) → task_of words ≡ Some task
+    → IfSome left (λ bytes. bytes ≡ all) → IfOk r (λ x. answer_of x ≡ script_answer task (script_in is_built all))
     → MatchResult r (λ x. Given (answer_of x) s old new before now) (λ _. (s ≡ Memory) × Keeps old new) → Answers words left s old new before now
-answered-script words left all r s old new before now run known e g =
-    (all, known, subst (λ (a : Answer). Given a s old new before now) (sym (answer-run words all run)) (given-script r (script_answer (script_of all)) s old new before now e g))
+answered-script words task left all r s old new before now run known e g =
+    (all, known, subst (λ (a : Answer). Given a s old new before now) (sym (answer-task words task all run)) (given-script r (script_answer task (script_in is_built all)) s old new before now e g))
 
-pub answered-long : (words : List (List ℕ)) (left : Option (List ℕ)) (r : Result Answered NoMemory) (s : Status) (old new : Option (List ℕ)) (before now : ℕ) → is_run words ≡ true
-    → IfSome left (λ bytes. most_bytes < length bytes) → IfOk r (λ x. answer_of x ≡ script_answer (fault 0 Long))
+pub answered-long : (words : List (List ℕ)) (task : Task) (left : Option (List ℕ)) (r : Result Answered NoMemory) (s : Status) (old new : Option (List ℕ)) (before now : ℕ) → task_of words ≡ Some task
+    → IfSome left (λ bytes. most_bytes < length bytes) → IfOk r (λ x. answer_of x ≡ fault_answer (wrong 0 ScriptKind.Long))
     → MatchResult r (λ x. Given (answer_of x) s old new before now) (λ _. (s ≡ Memory) × Keeps old new) → Answers words left s old new before now
-answered-long words left r s old new before now run known e g =
+answered-long words task left r s old new before now run known e g =
     let long = too_long most_bytes left known in
-    (long.0, long.1, subst (λ (a : Answer). Given a s old new before now) (sym (answer-run words long.0 run ∙ ap script_answer (script_of-long long.0 long.2))) (given-script r (script_answer (fault 0 Long)) s old new before now e g))
+    (long.0, long.1, subst (λ (a : Answer). Given a s old new before now) (sym (answer-task words task long.0 run ∙ ap (script_answer task) (script_in-long long.0 long.2))) (given-script r (fault_answer (wrong 0 ScriptKind.Long)) s old new before now e g))

@@ -1,4 +1,2 @@
-pub mod Lines
-pub mod Runs
 pub mod HeadlineLaws
 mod WorkedRows

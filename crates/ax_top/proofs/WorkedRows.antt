@@ -1,34 +1,56 @@
--- Worked examples of the definitions.
-use Rattle.std.proofs.Common.{◌≡◌, [], ◌∷◌, refl}
-use Rattle.std.specs.Prelude.{codes}
+-- Worked runs, computed from the definitions alone.
+use Rattle.std.specs.Prelude.{◌≡◌, ◌++◌, List, [], ◌∷◌, codes, refl}
+use lib.Count.{ones}
 use Rattle.std.specs.Fmt.{digits}
-use Rattle.ax_top.specs.declared.status.Status.TheVariants as status
-use Rattle.ax_first_world.specs.Rows.{card_of, rows_of}
-use Rattle.ax_first_world.specs.Machine.{step}
-use Rattle.ax_first_world.specs.Text.{entry_text, run_text}
-use Rattle.ax_top.specs.Script.{do_order, work_order, order_words, order_line, line_at, fixed, actor_at, orders_at, preamble_at, head_at, script_of}
-use Rattle.ax_top.specs.Run.{answer}
+use Rattle.ax_values.specs.Grammar.{Line}
+use Rattle.ax_journal.specs.Orders.{is_stop}
+use Rattle.ax_script.specs.Forms.{order_in}
+use Rattle.ax_script.specs.Judging.{first_kind, is_known, is_show}
+use Rattle.ax_script.specs.Reading.{with_line, line_read, script_in}
+use Rattle.ax_top.specs.declared.status.Status.{Status}
+use Rattle.ax_top.specs.Run.{Answer, answer}
 
--- one card, one worker, one printed row
-first_path : answer (codes "run" ∷ []) (codes "axon 1\nsheet cards\nprocessor balance 1\nactor a1\norders\na1 do card-1 issue amount=100\na1 do card-1 redeem amount=30\na1 claim balance 0/0\na1 work balance 0/0 100\na1 show rows balance\n")
-    ≡ record { status = status.Done; text = codes "a1 send card-1 issue amount=100 -> 0 cell 0 count 1 first 0\na1 append -> 0 seq 0 count 1\na1 send card-1 redeem amount=30 -> 0 cell 1 count 1 first 1\na1 append -> 0 seq 1 count 1\na1 claim balance 0/0 -> 0 fence 2\na1 fetch balance 0/0 100 -> 0 records 2\na1 commit -> 0 applied 2 parked 0 dropped 0\na1 show rows balance -> 0 lines 1\nrow card-1 items 2 remaining=70\n" }
-unfolding digits card_of rows_of step entry_text run_text do_order work_order order_words order_line line_at fixed actor_at orders_at preamble_at head_at script_of answer
-first_path = refl
+abbrev run_word : List Line
+run_word = codes "run" ∷ []
 
--- refused orders
-first_refusals : answer (codes "run" ∷ []) (codes "axon 1\nsheet cards\nprocessor balance 1\nactor a1\norders\na1 do card-1 redeem amount=5\na1 work balance 0/0 100\n")
-    ≡ record { status = status.Done; text = codes "a1 send card-1 redeem amount=5 -> 20 guard 0\na1 append -> 23\na1 fetch balance 0/0 100 -> 29\na1 commit -> 32\n" }
-unfolding digits card_of rows_of step entry_text run_text do_order work_order order_words order_line line_at fixed actor_at orders_at preamble_at head_at script_of answer
-first_refusals = refl
+abbrev done : Line → Answer
+done text = record { status = Status.Done; text = text }
 
--- an order that is not built
-form_not_built_yet : answer (codes "run" ∷ []) (codes "axon 1\nsheet cards\nprocessor balance 1\nactor a1\norders\na1 tick 5\n")
-    ≡ record { status = status.Script; text = codes "script 6 later\n" }
-unfolding digits card_of rows_of step entry_text run_text do_order work_order order_words order_line line_at fixed actor_at orders_at preamble_at head_at script_of answer
+abbrev head : Line
+head = codes "axon 1\nsheet cards\nprocessor balance 1\nactor c1\nactor c2\nactor w1\nactor w2\norders\n"
+
+head_alone_prints_nothing : answer run_word head ≡ done []
+unfolding digits answer first_kind with_line line_read script_in order_in is_known is_show is_stop ones
+head_alone_prints_nothing = refl
+
+script_cut_in_a_line : answer run_word (head ++ codes "c1 do card-1 iss") ≡ record { status = Status.Script; text = codes "script 9 cut\n" }
+unfolding digits answer first_kind with_line line_read script_in order_in is_known is_show is_stop ones
+script_cut_in_a_line = refl
+
+form_not_built_yet : answer run_word (head ++ codes "c1 tick 5\n") ≡ record { status = Status.Script; text = codes "script 9 later\n" }
+unfolding digits answer first_kind with_line line_read script_in order_in is_known is_show is_stop ones
 form_not_built_yet = refl
 
--- a line without an end
-script_cut_in_a_line : answer (codes "run" ∷ []) (codes "axon 1\nsheet cards\nprocessor balance 1\nactor a1\norders\na1 do card-1 iss")
-    ≡ record { status = status.Script; text = codes "script 6 cut\n" }
-unfolding digits card_of rows_of step entry_text run_text do_order work_order order_words order_line line_at fixed actor_at orders_at preamble_at head_at script_of answer
-script_cut_in_a_line = refl
+second_append_conflicts : answer run_word (head ++ codes "c1 do card-1 issue amount=100\nc1 send card-1 redeem amount=10\nc2 send card-1 redeem amount=20\nc1 append\nc2 append\nc2 append\n")
+    ≡ done (codes "c1 send card-1 issue amount=100 -> 0 cell 0 count 1 first 0\nc1 append -> 0 seq 0 count 1\nc1 send card-1 redeem amount=10 -> 0 cell 1 count 1 first 1\nc2 send card-1 redeem amount=20 -> 0 cell 2 count 1 first 1\nc1 append -> 0 seq 1 count 1\nc2 append -> 21 expected 1 found 2\nc2 append -> 23\n")
+unfolding digits answer first_kind with_line line_read script_in order_in is_known is_show is_stop ones
+second_append_conflicts = refl
+
+issue_redeem_and_show : answer run_word (head ++ codes "c1 do card-1 issue amount=100\nc1 do card-1 redeem amount=30\nw1 claim balance 0/0\nw1 work balance 0/0 100\nw1 show rows balance\n")
+    ≡ done (codes "c1 send card-1 issue amount=100 -> 0 cell 0 count 1 first 0\nc1 append -> 0 seq 0 count 1\nc1 send card-1 redeem amount=30 -> 0 cell 1 count 1 first 1\nc1 append -> 0 seq 1 count 1\nw1 claim balance 0/0 -> 0 fence 2\nw1 fetch balance 0/0 100 -> 0 records 2\nw1 commit -> 0 applied 2 parked 0 dropped 0\nw1 show rows balance -> 0 lines 1\nrow card-1 items 2 remaining=70\n")
+unfolding digits answer first_kind with_line line_read script_in order_in is_known is_show is_stop ones
+issue_redeem_and_show = refl
+
+reserved_cell_is_a_gap : answer run_word (head ++ codes "c1 send card-1 issue amount=10\nc2 do card-2 issue amount=20\nw1 claim balance 0/0\nw1 work balance 0/0 100\nc1 append\nw1 work balance 0/0 100\n")
+    ≡ done (codes "c1 send card-1 issue amount=10 -> 0 cell 0 count 1 first 0\nc2 send card-2 issue amount=20 -> 0 cell 1 count 1 first 0\nc2 append -> 0 seq 0 count 1\nw1 claim balance 0/0 -> 0 fence 2\nw1 fetch balance 0/0 100 -> 0 records 1\nw1 commit -> 0 applied 1 parked 0 dropped 0\nc1 append -> 0 seq 0 count 1\nw1 fetch balance 0/0 100 -> 0 records 1\nw1 commit -> 0 applied 1 parked 0 dropped 0\n")
+unfolding digits answer first_kind with_line line_read script_in order_in is_known is_show is_stop ones
+reserved_cell_is_a_gap = refl
+
+item_without_letters_is_refused : answer run_word (head ++ codes "c1 do card-1 buy amount=10 fee=30\nw1 claim balance 0/0\nw1 work balance 0/0 100\n")
+    ≡ done (codes "c1 send card-1 buy amount=10 fee=30 -> 0 cell 0 count 1 first 0\nc1 append -> 0 seq 0 count 1\nw1 claim balance 0/0 -> 0 fence 2\nw1 fetch balance 0/0 100 -> 0 records 1\nw1 commit -> 60 card-1.0.1 guard 0\n")
+unfolding digits answer first_kind with_line line_read script_in order_in is_known is_show is_stop ones
+item_without_letters_is_refused = refl
+
+rebuild_prints_the_row : answer (codes "rebuild" ∷ []) (head ++ codes "c1 do card-1 issue amount=100\nc1 do card-1 redeem amount=30\nw1 claim balance 0/0\nw1 work balance 0/0 100\nw1 show rows balance\n") ≡ done (codes "processor balance\nrow card-1 items 2 remaining=70\n")
+unfolding digits answer first_kind with_line line_read script_in order_in is_known is_show is_stop ones
+rebuild_prints_the_row = refl

@@ -1,14 +1,14 @@
-//! The program as one call: words, a script from a source, and the text of its run into a sink.
+//! The program as one call: words, a script from a source, and the text of its run, or of its rows made again from the log,
+//! into a sink.
 #![tactic(auto)]
 
 mod answer;
-mod plan;
-mod script;
 mod status;
+mod task;
 mod text;
 mod top;
 
-pub use plan::ScriptKind;
+pub use ax_script::ScriptKind;
 pub use status::Status;
 pub use top::run_script;
 

@@ -1,14 +1,15 @@
-ghost use Rattle.std.specs.Prelude.{◌≡◌, ◌≤◌, ◌↔◌, false, map, string_bytes, IfOk, MatchResult};
+ghost use Rattle.std.specs.Prelude.{◌≡◌, ◌↔◌, None, map, string_bytes, IfOk, MatchResult};
 ghost use Rattle.std.specs.Io.KnownBytes.{Keeps};
 ghost use Rattle.ax_ports.specs.Ports.{Rose};
-ghost use Rattle.ax_top.specs.Run.{Answer, is_run, usage_text};
+ghost use Rattle.ax_top.specs.Run.{Answer, task_of, usage_text};
 ghost use Rattle.ax_top.specs.Answered.{answer_of};
 ghost use Rattle.ax_top.specs.Headline.{Given, Answers, IsTold, IsDelivered, IsBuilt};
 
 use crate::answer::{Answered, answer, refusal};
-use crate::plan::ScriptKind;
 use crate::status::Status;
+use crate::task::{Task, task_of};
 use ax_ports::{Keeper, ReadFault, Sink, Source, read_all, write_all};
+use ax_script::ScriptKind;
 use ax_values::NoMemory;
 use std::alloc::Global;
 
@@ -16,15 +17,6 @@ const MOST_BYTES: usize = 8388608;
 
 const USAGE: &[u8] =
     b"usage: axrun run [--threads] [--brief] [--keep PATH] | rebuild [--keep PATH] | gen N\n";
-
-fn is_run(words: &[String]) -> bool
-    ensures { result ≡ is_run (map string_bytes words.now) }
-{
-    match words {
-        [word] => word.as_bytes() == b"run".as_slice(),
-        _ => false,
-    }
-}
 
 fn deliver<W: Sink>(sink: &mut W, status: Status, text: &[u8]) -> Status
     requires { IsTold status }
@@ -63,26 +55,27 @@ fn run_words<S: Source, W: Sink>(
 ) -> Status
     ensures answer { Answers (map string_bytes words.now) (S.left source.old) result
         (W.taken sink.old) (W.taken sink.new) (W.faults sink.old) (W.faults sink.new) }
-    ensures usage { (result ≡ Status.Usage) ↔ (is_run (map string_bytes words.now) ≡ false) }
+    ensures usage { (result ≡ Status.Usage) ↔ (task_of (map string_bytes words.now) ≡ None) }
     ensures read { result ≡ Status.ReadFault → Rose (S.faults source.old) (S.faults source.new) }
     ensures write { result ≡ Status.WriteFault → Rose (W.faults sink.old) (W.faults sink.new) }
     ensures done { result ≡ Status.Done → (S.faults source.new ≡ S.faults source.old) × (W.faults sink.new ≡ W.faults sink.old) }
     ensures unread { result ≡ Status.Usage → (S.left source.new ≡ S.left source.old) × (S.faults source.new ≡ S.faults source.old) }
     ensures built { IsBuilt result }
 {
-    if !is_run(words) {
+    let Some(task) = task_of(words) else {
         return deliver(sink, Status::Usage, USAGE);
-    }
+    };
     match read_all(alloc, source, MOST_BYTES) {
-        Ok(Some(bytes)) => give(sink, answer(alloc, &bytes)),
+        Ok(Some(bytes)) => give(sink, answer(alloc, task, &bytes)),
         Ok(None) => give(sink, refusal(alloc, 0, ScriptKind::Long)),
         Err(ReadFault::Failed) => Status::ReadFault,
         Err(ReadFault::Memory) => Status::Memory,
     }
 }
 
-/// Reads the script of the source, performs it on one thread, and writes the text of its run into the sink.
-/// It serves the single word `run`; any other words are `Usage`. The keeper is handed back as it was given.
+/// Reads the script of the source, performs it on one thread, and writes the text of its run into the sink; or, at the word
+/// `rebuild`, the rows that its log alone gives.
+/// It serves the single words `run` and `rebuild`; any other words are `Usage`. The keeper is handed back as it was given.
 /// All steps come before the first written byte. A failed write of a message leaves its status.
 pub fn run_script<S: Source, W: Sink, K: Keeper>(
     alloc: Global,
@@ -92,13 +85,13 @@ pub fn run_script<S: Source, W: Sink, K: Keeper>(
     keeper: K,
 ) -> (Status, K)
     // There are bytes, those that the source has left where it tells them, such that the status and what is written
-    // are the text of the run of the script that they are, whole, or a front of it where the sink's count rose;
+    // are what is asked of the script that they are, whole, or a front of it where the sink's count rose;
     // or the message of the script's first fault; or that of the usage.
     ensures answer { Answers (map string_bytes words.now) (S.left source.old) result.0
         (W.taken sink.old) (W.taken sink.new) (W.faults sink.old) (W.faults sink.new) }
 
     // When each status comes, also where source and sink tell nothing of their bytes.
-    ensures usage { (result.0 ≡ Status.Usage) ↔ (is_run (map string_bytes words.now) ≡ false) }
+    ensures usage { (result.0 ≡ Status.Usage) ↔ (task_of (map string_bytes words.now) ≡ None) }
     ensures read { result.0 ≡ Status.ReadFault → Rose (S.faults source.old) (S.faults source.new) }
     ensures write { result.0 ≡ Status.WriteFault → Rose (W.faults sink.old) (W.faults sink.new) }
     ensures done { result.0 ≡ Status.Done → (S.faults source.new ≡ S.faults source.old) × (W.faults sink.new ≡ W.faults sink.old) }

@@ -1,3 +1,0 @@
-pub mod RowsLaws
-pub mod Fences
-pub mod Prefixes
