@@ -6,7 +6,9 @@ use Rattle.std.proofs.lemmas.Bool.Decides.{nat_tests}
 use Rattle.ax_values.specs.declared.memory.NoMemory.{NoMemory}
 use Rattle.ax_journal.specs.Form.{is_built}
 use Rattle.ax_script.specs.declared.kind.ScriptKind.{ScriptKind}
-use Rattle.ax_script.specs.Reading.{most_bytes, unless_long, wrong, script_in}
+use Rattle.ax_script.specs.Plans.{Plan}
+use Rattle.ax_script.specs.Reading.{Wrong, most_bytes, unless_long, wrong, script_in}
+use Rattle.ax_machine.specs.Promises.{AlwaysRight}
 use Rattle.ax_top.specs.declared.status.Status.{Status}
 use Rattle.ax_top.specs.declared.status.Status.TheVariants.{Done, Usage, Script, ReadFault, WriteFault, KeeperFault, BadRows, OtherSheet, Memory}
 use Rattle.ax_top.specs.declared.task.Task.{Task}
@@ -14,7 +16,7 @@ use Rattle.ax_top.specs.Run.{Answer, task_of, usage_text, fault_answer, script_a
 use Rattle.ax_top.specs.declared.answer.Answered.{Answered}
 use Rattle.ax_top.specs.Answered.{answer_of}
 use Rattle.std.proofs.lemmas.List.{length-replicate}
-use Rattle.ax_top.specs.Headline.{Given, Answers, IsDelivered}
+use Rattle.ax_top.specs.Headline.{Given, Answers, IsRight, IsDelivered}
 
 pub answer-usage : (words : List (List ℕ)) (bytes : List ℕ) → task_of words ≡ None → answer words bytes ≡ record { status = Usage; text = usage_text }
 unfolding answer
@@ -73,27 +75,56 @@ keeps-same : (o : Option (List ℕ)) → Keeps o o
 keeps-same None = tt
 keeps-same (Some bytes) = refl
 
+-- what runs right where a script is performed
+
+right-always : (s : Status) (script : Result Plan Wrong) → AlwaysRight script → IsRight s script
+right-always Done script h = h
+right-always Usage script h = tt
+right-always Script script h = tt
+right-always ReadFault script h = tt
+right-always WriteFault script h = h
+right-always KeeperFault script h = tt
+right-always BadRows script h = tt
+right-always OtherSheet script h = tt
+right-always Memory script h = tt
+
+right-usage : (s : Status) (text : List ℕ) (old new : Option (List ℕ)) (before now : ℕ) (script : Result Plan Wrong) → Given (record { status = Usage; text = text }) s old new before now → IsRight s script
+right-usage Done text old new before now script g = absurd (let e : Usage ≡ Done = g.0 in cc)
+right-usage Usage text old new before now script g = tt
+right-usage Script text old new before now script g = tt
+right-usage ReadFault text old new before now script g = tt
+right-usage WriteFault text old new before now script g = absurd (let e : Usage ≡ Done = g.0 in cc)
+right-usage KeeperFault text old new before now script g = tt
+right-usage BadRows text old new before now script g = tt
+right-usage OtherSheet text old new before now script g = tt
+right-usage Memory text old new before now script g = tt
+
+right-script : (r : Result Answered NoMemory) (s : Status) (script : Result Plan Wrong) (old new : Option (List ℕ)) (before now : ℕ) → IfOk r (λ x. AlwaysRight script)
+    → MatchResult r (λ x. Given (answer_of x) s old new before now) (λ _. (s ≡ Memory) × Keeps old new) → IsRight s script
+right-script (Ok x) s script old new before now h g = right-always s script h
+right-script (Err x) s script old new before now h g = subst (λ (t : Status). IsRight t script) (sym g.0) tt
+
 -- the ways to an answer
 pub answered-read_fault : (words : List (List ℕ)) (left taken : Option (List ℕ)) (count : ℕ) → Answers words left ReadFault taken taken count count
-answered-read_fault words left taken count = (told left, told-is left, keeps-same taken)
+answered-read_fault words left taken count = (told left, told-is left, keeps-same taken, tt)
 
 pub answered-memory : (words : List (List ℕ)) (left taken : Option (List ℕ)) (count : ℕ) → Answers words left Memory taken taken count count
-answered-memory words left taken count = (told left, told-is left, keeps-same taken)
+answered-memory words left taken count = (told left, told-is left, keeps-same taken, tt)
 
 pub answered-usage : (words : List (List ℕ)) (left : Option (List ℕ)) (s : Status) (old new : Option (List ℕ)) (before now : ℕ) → task_of words ≡ None
     → Given (record { status = Usage; text = usage_text }) s old new before now → Answers words left s old new before now
 answered-usage words left s old new before now none g =
-    (told left, told-is left, subst (λ (a : Answer). Given a s old new before now) (sym (answer-usage words (told left) none)) g)
+    (told left, told-is left, subst (λ (a : Answer). Given a s old new before now) (sym (answer-usage words (told left) none)) g, right-usage s usage_text old new before now (script_in is_built (told left)) g)
 
 pub answered-script : (words : List (List ℕ)) (task : Task) (left : Option (List ℕ)) (all : List ℕ) (r : Result Answered NoMemory) (s : Status) (old new : Option (List ℕ)) (before now : ℕ) → task_of words ≡ Some task
-    → IfSome left (λ bytes. bytes ≡ all) → IfOk r (λ x. answer_of x ≡ script_answer task (script_in is_built all))
+    → IfSome left (λ bytes. bytes ≡ all) → IfOk r (λ x. answer_of x ≡ script_answer task (script_in is_built all)) → IfOk r (λ x. AlwaysRight (script_in is_built all))
     → MatchResult r (λ x. Given (answer_of x) s old new before now) (λ _. (s ≡ Memory) × Keeps old new) → Answers words left s old new before now
-answered-script words task left all r s old new before now run known e g =
-    (all, known, subst (λ (a : Answer). Given a s old new before now) (sym (answer-task words task all run)) (given-script r (script_answer task (script_in is_built all)) s old new before now e g))
+answered-script words task left all r s old new before now run known e right g =
+    (all, known, subst (λ (a : Answer). Given a s old new before now) (sym (answer-task words task all run)) (given-script r (script_answer task (script_in is_built all)) s old new before now e g), right-script r s (script_in is_built all) old new before now right g)
 
 pub answered-long : (words : List (List ℕ)) (task : Task) (left : Option (List ℕ)) (r : Result Answered NoMemory) (s : Status) (old new : Option (List ℕ)) (before now : ℕ) → task_of words ≡ Some task
     → IfSome left (λ bytes. most_bytes < length bytes) → IfOk r (λ x. answer_of x ≡ fault_answer (wrong 0 ScriptKind.Long))
     → MatchResult r (λ x. Given (answer_of x) s old new before now) (λ _. (s ≡ Memory) × Keeps old new) → Answers words left s old new before now
 answered-long words task left r s old new before now run known e g =
     let long = too_long most_bytes left known in
-    (long.0, long.1, subst (λ (a : Answer). Given a s old new before now) (sym (answer-task words task long.0 run ∙ ap (script_answer task) (script_in-long long.0 long.2))) (given-script r (fault_answer (wrong 0 ScriptKind.Long)) s old new before now e g))
+    (long.0, long.1, subst (λ (a : Answer). Given a s old new before now) (sym (answer-task words task long.0 run ∙ ap (script_answer task) (script_in-long long.0 long.2))) (given-script r (fault_answer (wrong 0 ScriptKind.Long)) s old new before now e g), right-always s (script_in is_built long.0) (subst AlwaysRight (sym (script_in-long long.0 long.2)) tt))

@@ -1,7 +1,11 @@
 -- What a call of the program has to do with the answer to its words and its input.
-use Rattle.std.specs.Prelude.{◌≡◌, ◌⊎◌, ℕ, List, Option, IfSome}
+use Rattle.std.specs.Prelude.{◌≡◌, ◌⊎◌, ℕ, List, Option, Result, IfSome}
 use Rattle.std.specs.Io.KnownBytes.{Keeps, Appends}
 use Rattle.ax_ports.specs.Ports.{Rose, AppendsFront}
+use Rattle.ax_journal.specs.Form.{is_built}
+use Rattle.ax_script.specs.Plans.{Plan}
+use Rattle.ax_script.specs.Reading.{Wrong, script_in}
+use Rattle.ax_machine.specs.Promises.{AlwaysRight}
 use Rattle.ax_top.specs.declared.status.Status.{Status}
 use Rattle.ax_top.specs.declared.status.Status.TheVariants.{Done, Usage, Script, ReadFault, WriteFault, KeeperFault, BadRows, OtherSheet, Memory}
 use Rattle.ax_top.specs.Run.{Answer, answer}
@@ -24,9 +28,15 @@ Given a KeeperFault old new before now = ⊥
 Given a BadRows old new before now = ⊥
 Given a OtherSheet old new before now = ⊥
 
--- There are bytes, those that the source has left where it tells them, whose answer is given.
+-- where a script is performed, its projections always show what they have to
+abbrev pub IsRight : Status → Result Plan Wrong → Type 0
+IsRight Done script = AlwaysRight script
+IsRight WriteFault script = AlwaysRight script
+IsRight _ script = Unit {0}
+
+-- There are bytes, those that the source has left where it tells them, whose answer is given, and whose script runs right.
 abbrev pub Answers : List (List ℕ) → Option (List ℕ) → Status → Option (List ℕ) → Option (List ℕ) → ℕ → ℕ → Type 0
-Answers words left status old new before now = (bytes : List ℕ) × IfSome left (λ all. all ≡ bytes) × Given (answer words bytes) status old new before now
+Answers words left status old new before now = (bytes : List ℕ) × IfSome left (λ all. all ≡ bytes) × Given (answer words bytes) status old new before now × IsRight status (script_in is_built bytes)
 
 -- a status with a text
 abbrev pub IsTold : Status → Type 0

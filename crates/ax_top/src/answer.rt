@@ -1,6 +1,7 @@
 ghost use Rattle.std.specs.Prelude.{◌≡◌, IfOk};
 ghost use Rattle.ax_journal.specs.Form.{is_built};
 ghost use Rattle.ax_script.specs.Reading.{script_in};
+ghost use Rattle.ax_machine.specs.Promises.{AlwaysRight};
 ghost use Rattle.ax_top.specs.Run.{Answer, kind_text, fault_text, fault_answer, script_answer};
 ghost use Rattle.ax_top.specs.Answered.{answer_of};
 ghost use Rattle.ax_top.specs.Headline.{IsTold};
@@ -57,6 +58,7 @@ pub(crate) fn refusal(alloc: Global, line: u32, kind: ScriptKind) -> Result<Answ
 /// The answer to a script.
 pub(crate) fn answer(alloc: Global, task: Task, bytes: &[u8]) -> Result<Answered, NoMemory>
     ensures answer { IfOk result (λ a. answer_of a ≡ script_answer task (script_in is_built bytes.now)) }
+    ensures right { IfOk result (λ a. AlwaysRight (script_in is_built bytes.now)) }
     ensures told { IfOk result (λ a. IsTold a.status) }
 {
     match read(alloc, bytes) {

@@ -1,4 +1,5 @@
-ghost use Rattle.std.specs.Prelude.{◌≡◌, ◌++◌, IfOk, OnOk};
+ghost use Rattle.std.specs.Prelude.{ℕ, ◌≡◌, ◌++◌, IfOk, OnOk};
+ghost use Rattle.ax_machine.specs.Promises.{ShowsRight, state_after};
 ghost use Rattle.ax_top.specs.Run.{journal_text, task_text};
 
 use crate::task::Task;
@@ -21,7 +22,8 @@ fn write_journal(alloc: Global, entries: &[Entry], out: &mut Vec<u8>) -> Result<
 
 /// What a task prints of a plan, which is performed whole before.
 pub(crate) fn task_text(alloc: Global, task: Task, plan: &Plan) -> Result<Vec<u8>, NoMemory>
-    ensures { IfOk result (λ text. text.items ≡ task_text task plan.now) }
+    ensures text { IfOk result (λ text. text.items ≡ task_text task plan.now) }
+    ensures right { IfOk result (λ text. (orders : ℕ) → ShowsRight (state_after plan.now orders)) }
 {
     let machine = run(alloc, plan)?;
     let mut text = Vec::new(alloc);

@@ -86,7 +86,9 @@ pub fn run_script<S: Source, W: Sink, K: Keeper>(
 ) -> (Status, K)
     // There are bytes, those that the source has left where it tells them, such that the status and what is written
     // are what is asked of the script that they are, whole, or a front of it where the sink's count rose;
-    // or the message of the script's first fault; or that of the usage.
+    // or the message of the script's first fault; or that of the usage. And behind each number of orders of that script, every
+    // row that a projection shows is the fold, each item once, of a prefix of its aggregate's items in order; and where a
+    // projection is at the head, its rows are those that the log alone gives.
     ensures answer { Answers (map string_bytes words.now) (S.left source.old) result.0
         (W.taken sink.old) (W.taken sink.new) (W.faults sink.old) (W.faults sink.new) }
 

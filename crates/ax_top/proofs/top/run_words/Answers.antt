@@ -13,7 +13,8 @@ returns-in-Ok-Some-clause-answer g c =
     let words : List (List ℕ) = map (string_bytes {Z = Global}) c.args.words.now in
     let whole = rw c.in-Ok-Some.field-0-is at c.in-Ok-Some.ensures.whole in
     let answered = rw c.deref.ensures.value at c.answer.ensures.answer in
-    answered-script words c.in-Some.task (g.S.Source.left c.args.source.now) c.in-Ok-Some.bytes.items c.answer.result c.give.result (g.W.Sink.taken c.args.sink.now) (g.W.Sink.taken c.give.new.sink) (g.W.Sink.faults c.args.sink.now) (g.W.Sink.faults c.give.new.sink) (sym c.in-Some.ensures) whole.1 answered c.give.ensures.given
+    let right = rw c.deref.ensures.value at c.answer.ensures.right in
+    answered-script words c.in-Some.task (g.S.Source.left c.args.source.now) c.in-Ok-Some.bytes.items c.answer.result c.give.result (g.W.Sink.taken c.args.sink.now) (g.W.Sink.taken c.give.new.sink) (g.W.Sink.faults c.args.sink.now) (g.W.Sink.faults c.give.new.sink) (sym c.in-Some.ensures) whole.1 answered right c.give.ensures.given
 
 pub returns-in-Ok-None-clause-answer : goal.returns-in-Ok-None-clause-answer
 returns-in-Ok-None-clause-answer g c =
