@@ -1,11 +1,13 @@
 ghost use Rattle.std.specs.Prelude.{◌≡◌, [], ◌∷◌, slice_get, IfOk, OnOk};
-ghost use Rattle.ax_log.specs.Puts.{CanPutAll, put_all};
+ghost use Rattle.ax_log.specs.Log.{put_at};
+ghost use Rattle.ax_log.specs.Puts.{CanPut, CanPutAll, put_all};
 ghost use Rattle.ax_log.specs.Answers.{IsKeptFor};
 
-use ax_log::{CellPuts, Log, LogFault};
+use ax_log::{CellPut, CellPuts, Log, LogFault};
 use ax_values::{Cell, Duplicate, Name, NoMemory, Payload, Record};
 use std::alloc::Global;
 use std::process::Abort;
+use std::slice;
 use std::test::Fail;
 
 fn name(rt: &impl Abort, alloc: Global, text: &[u8]) -> Result<Name, NoMemory> {
@@ -77,10 +79,18 @@ fn make(log: &mut Log, puts: CellPuts) -> Result<(), NoMemory>
     requires { CanPutAll log.old.cells puts }
     ensures { OnOk result (log.new.cells ≡ put_all puts log.old.cells) }
 {
-    log.room(puts.parts())?;
-    for put in puts.into_parts() {
-        log.put(put);
+    for change in puts.into_parts() {
+        make_one(log, change)?;
     }
+    Ok(())
+}
+
+fn make_one(log: &mut Log, change: CellPut) -> Result<(), NoMemory>
+    requires { CanPut log.old.cells change }
+    ensures { OnOk result (log.new.cells ≡ put_at log.old.cells change.index change.cell) }
+{
+    log.room(slice::from_ref(&change))?;
+    log.put(change);
     Ok(())
 }
 

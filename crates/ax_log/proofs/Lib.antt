@@ -1,4 +1,7 @@
 pub mod Puts
 pub mod Order
+pub mod Index
+pub mod Heads
+pub mod Events
 pub mod Append
 pub mod Made

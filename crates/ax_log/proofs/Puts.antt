@@ -36,7 +36,7 @@ place-open cells i h =
     ⊎_elim (λ (e : i ≡ length cells). record { free = ap is_open (slice_get_past cells i (omega arith)); within = omega arith })
     (λ (e : IsTrue (option_is is_reserved (slice_get cells i))). reserved-open cells i e) h
 
-open-next : (c : Cell) (cs : List Cell) (i : ℕ) → IsOpen (c ∷ cs) (suc i) → IsOpen cs i
+pub open-next : (c : Cell) (cs : List Cell) (i : ℕ) → IsOpen (c ∷ cs) (suc i) → IsOpen cs i
 open-next c cs i h = let le : suc i ≤ suc (length cs) = h.within in record { free = h.free; within = omega arith }
 
 put-end : (cells : List Cell) (x : Cell) → cells ++ x ∷ [] ≡ put (length cells) x cells

@@ -1,4 +1,5 @@
 pub mod Log
 pub mod Order
+pub mod Index
 pub mod Puts
 pub mod Answers

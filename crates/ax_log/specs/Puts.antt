@@ -1,14 +1,41 @@
 -- Changed cells, and what contracts see of a log that takes them.
-use Rattle.std.specs.Prelude.{◌≡◌, ℕ, suc, ◌-◌, ◌==◌, ◌⊎◌, IsTrue, List, [], ◌∷◌, length, slice_get, if◌then◌else◌}
+use Rattle.std.specs.Prelude.{◌≡◌, ℕ, suc, ◌-◌, ◌≤◌, ◌==◌, ◌⊎◌, Bool, IsTrue, List, [], ◌∷◌, length, slice_get, if◌then◌else◌}
+use Rattle.std.specs.List.{AllByRecursion, list_any}
+use Rattle.ax_values.specs.Grammar.{Name}
+use Rattle.ax_values.specs.Words.{same_name}
 use Rattle.ax_values.specs.declared.cell.Cell.{Cell}
 use Rattle.ax_log.specs.Log.{is_reserved, option_is, put_at}
 use Rattle.ax_log.specs.Order.{IsOrdered}
 use Rattle.ax_log.specs.declared.put.CellPut.{CellPut}
 
--- the cells, and for how many more there is room
+-- what takes no memory: so many new cells, and events of these aggregates
+pub record Room : Type 0 where
+  pub cells : ℕ
+  pub names : List Name
+
+-- the cells, and for what there is room
 pub record LogView : Type 0 where
   pub cells : List Cell
-  pub room : ℕ
+  pub room : Room
+
+abbrev pub is_known : List Name → Name → Bool
+is_known names a = list_any (same_name a) names
+
+-- an event of the cell is of one of the aggregates
+abbrev pub IsKnown : List Name → Cell → Type 0
+IsKnown names (Cell.Reserved a s w t) = Unit {0}
+IsKnown names Cell.Void = Unit {0}
+IsKnown names (Cell.Event r) = IsTrue (is_known names r.aggregate)
+
+-- the puts take no memory
+pub record HasRoom (room : Room) (puts : List CellPut) : Type 0 where
+  pub cells : length puts ≤ room.cells
+  pub names : AllByRecursion (λ p. IsKnown room.names p.cell) puts
+
+-- for what there was room, there still is
+pub record IsKept (old new : Room) : Type 0 where
+  pub cells : old.cells ≤ new.cells
+  pub names : (a : Name) → IsTrue (is_known old.names a) → IsTrue (is_known new.names a)
 
 -- the index is the log's length, or that of a reserved cell
 abbrev pub HasPlace : List Cell → ℕ → Type 0
@@ -40,9 +67,4 @@ room_after cells room put = if put.index == length cells then room - 1 else room
 
 -- the log after a put
 abbrev pub after_put : LogView → CellPut → LogView
-after_put l put = record { cells = put_at l.cells put.index put.cell; room = room_after l.cells l.room put }
-
--- the log after puts one after another
-abbrev pub after_puts : List CellPut → LogView → LogView
-after_puts [] l = l
-after_puts (p ∷ ps) l = after_puts ps (after_put l p)
+after_put l put = record { cells = put_at l.cells put.index put.cell; room = record l.room { cells = room_after l.cells l.room.cells put } }

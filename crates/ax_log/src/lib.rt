@@ -4,6 +4,7 @@
 mod fault;
 mod log;
 mod put;
+mod streams;
 
 pub use fault::LogFault;
 pub use log::Log;

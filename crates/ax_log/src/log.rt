@@ -3,9 +3,11 @@ ghost use Rattle.std.specs.Option.{option_copied};
 ghost use Rattle.ax_log.specs.Log.{stream_of, length_of};
 ghost use Rattle.std.specs.List.{list_all};
 ghost use Rattle.ax_log.specs.Order.{IsOrdered, max_cells, has_few_fields};
-ghost use Rattle.ax_log.specs.Puts.{CanPut, CanPutAll, puts_at, after_put};
-ghost use Rattle.ax_log.specs.Answers.{HasCells, IsReserveAnswer, IsAppendAnswer, first_void, voiding};
+ghost use Rattle.ax_log.specs.Puts.{CanPut, CanPutAll, HasRoom, IsKept, IsKnown, puts_at, after_put};
+ghost use Rattle.ax_log.specs.Answers.{HasCells, IsReserveAnswer, IsAppendAnswer, aggregate_of, first_void, voiding};
 
+use crate::put::put_at;
+use crate::streams::Streams;
 use crate::{CellPut, CellPuts, LogFault};
 use ax_values::{Cell, Duplicate, Name, NoMemory, Record};
 use std::alloc::Global;
@@ -23,18 +25,27 @@ const VOID_PERIOD: u64 = 60_000;
 #[derive(Drop)]
 pub struct Log {
     cells: Vec<Cell>,
+    streams: Streams,
 }
 
 impl Model for Log {
-    ghost use Rattle.std.specs.Prelude.{◌-◌, vec_len, vec_capacity};
+    ghost use Rattle.std.specs.Prelude.{◌-◌, min, vec_len, vec_capacity};
+    ghost use Rattle.indexmap.specs.IndexMap.{keys};
     ghost use Rattle.ax_log.specs.Puts.{LogView};
     ghost use Rattle.ax_log.specs.Order.{IsOrdered};
+    ghost use Rattle.ax_log.specs.Index.{IsIndexed};
 
     ghost Value = { LogView };
 
-    ghost view = { λ log. record { cells = log.cells.items; room = vec_capacity log.cells - vec_len log.cells } };
+    ghost view = { λ log. record {
+      cells = log.cells.items;
+      room = record {
+        cells = min (vec_capacity log.cells - vec_len log.cells) (vec_capacity log.streams.before - vec_len log.streams.before);
+        names = keys log.streams.last;
+      };
+    } };
 
-    ghost invariant = { λ log. IsOrdered log.cells.items };
+    ghost invariant = { λ log. IsOrdered log.cells.items × IsIndexed log.cells.items log.streams.before.items log.streams.last.entries };
 }
 
 impl Log {
@@ -44,6 +55,7 @@ impl Log {
     {
         Log {
             cells: Vec::new(alloc),
+            streams: Streams::new(alloc),
         }
     }
 
@@ -59,14 +71,30 @@ impl Log {
     pub fn length_of(&self, aggregate: &Name) -> u32
         ensures { result ≡ length_of aggregate.now self.now.cells }
     {
-        length_in(self.cells(), aggregate) as u32
+        let last = self.streams.last_of(aggregate) as usize;
+        if last == 0 {
+            return 0;
+        }
+        let Cell::Event(event) = &self.cells[last - 1] else {
+            return 0;
+        };
+        event.seq + 1
     }
 
     /// The indexes of the aggregate's events, in order.
     pub fn stream(&self, alloc: Global, aggregate: &Name) -> Result<Vec<u32>, NoMemory>
         ensures { IfOk result (λ indexes. indexes.items ≡ map (λ event. event.index) (stream_of aggregate.now self.now.cells)) }
     {
-        stream_in(alloc, self.cells(), aggregate)
+        let before = self.streams.before();
+        let mut at = self.streams.last_of(aggregate);
+        let mut indexes = Vec::new(alloc);
+        while at > 0 {
+            let index = at - 1;
+            indexes.push(index)?;
+            at = before[index as usize];
+        }
+        indexes.reverse();
+        Ok(indexes)
     }
 
     /// The cell at an index. None comes exactly from the log's length on.
@@ -119,7 +147,8 @@ impl Log {
         ensures fits { IsTrue (list_all has_few_fields records.items) → IfOk result (CanPutAll self.now.cells) }
         ensures cause { IsAppendAnswer self.now.cells first records.items result }
     {
-        admit(self.cells(), first, &records)?;
+        let found = self.length_of(&records[0].aggregate);
+        admit(self.cells(), first, &records, found)?;
         let puts = event_puts(alloc, first, records)?;
         Ok(puts)
     }
@@ -149,68 +178,34 @@ impl Log {
     /// also where memory is wanting.
     pub fn room(&mut self, puts: &[CellPut]) -> Result<(), NoMemory>
         ensures cells { self.new.cells ≡ self.old.cells }
-        ensures room { OnOk result (length puts.now ≤ self.new.room) }
-        ensures kept { self.old.room ≤ self.new.room }
+        ensures room { OnOk result (HasRoom self.new.room puts.now) }
+        ensures kept { IsKept self.old.room self.new.room }
     {
         self.cells.reserve(puts.len())?;
-        Ok(())
+        self.streams.room(puts)
     }
 
     /// Puts a cell at the end, where there is room, or over a reserved one, if the log then keeps its order: what a
     /// change answers may be put. It takes no memory.
     pub fn put(&mut self, put: CellPut)
-        requires room { put.index ≡ length self.old.cells → 0 < self.old.room }
+        requires room { put.index ≡ length self.old.cells → 0 < self.old.room.cells }
+        requires known { IsKnown self.old.room.names put.cell }
         requires can { CanPut self.old.cells put }
         ensures { self.new ≡ after_put self.old put }
     {
         let CellPut { index, cell } = put;
-        let at = index as usize;
-        if at == self.cells.len() {
-            self.cells.push_reserved(cell);
-        } else {
-            self.cells[at] = cell;
-        }
+        self.streams.note(index, &cell);
+        put_at(&mut self.cells, index, cell);
     }
 }
 
-/// How many of the cells are events of the aggregate.
-fn length_in(cells: &[Cell], aggregate: &Name) -> usize
-    ensures value { result ≡ length_of aggregate.now cells.now }
-    ensures within { result ≤ length cells.now }
-{
-    let mut length = 0;
-    for cell in cells {
-        if let Cell::Event(stored) = cell {
-            if stored.aggregate.same(aggregate) {
-                length += 1;
-            }
-        }
-    }
-    length
-}
-
-/// The indexes of the cells that are events of the aggregate.
-fn stream_in(alloc: Global, cells: &[Cell], aggregate: &Name) -> Result<Vec<u32>, NoMemory>
-    requires { length cells.now ≤ max_cells }
-    ensures { IfOk result (λ indexes. indexes.items ≡ map (λ event. event.index) (stream_of aggregate.now cells.now)) }
-{
-    let mut indexes = Vec::new(alloc);
-    for (index, cell) in cells.iter().enumerate() {
-        if let Cell::Event(event) = cell {
-            if event.aggregate.same(aggregate) {
-                indexes.push(index as u32)?;
-            }
-        }
-    }
-    Ok(indexes)
-}
-
-/// Refuses the records where they may not be put at the indexes from `first` on.
+/// Refuses the records, of whose aggregate there are `found` events, where they may not be put at the indexes from `first` on.
 #[tactic(auto, using(std::proofs::lemmas::List::take_min))]
-fn admit(cells: &[Cell], first: u32, records: &[Record]) -> Result<(), LogFault>
+fn admit(cells: &[Cell], first: u32, records: &[Record], found: u32) -> Result<(), LogFault>
     requires size { length cells.now ≤ max_cells }
     requires some { 0 < length records.now }
     requires within { first ≤ length cells.now }
+    requires found { found ≡ length_of (aggregate_of records.now) cells.now }
     ensures { IsAppendAnswer cells.now first records.now result }
 {
     let start = first as usize;
@@ -223,7 +218,6 @@ fn admit(cells: &[Cell], first: u32, records: &[Record]) -> Result<(), LogFault>
         return Err(LogFault::Voided { index });
     }
     let expected = records[0].seq;
-    let found = length_in(cells, &records[0].aggregate) as u32;
     if found != expected {
         return Err(LogFault::Conflict { expected, found });
     }

@@ -4,3 +4,4 @@ pub mod Segments
 pub mod Starts
 pub mod Moves
 pub mod Shelves
+pub mod Projections

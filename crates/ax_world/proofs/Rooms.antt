@@ -1,46 +1,71 @@
 -- Room that is made for edits stays until they are made.
-use Rattle.std.proofs.Common.{◌≡◌, ℕ, zero, suc, ◌+◌, ◌<◌, ◌≤◌, Bool, true, false, List, [], ◌∷◌, map, take, length, Result, Ok, Err, OnOk, get_or, nat_lt, refl, sym, ap, ◌∙◌, subst, arith}
+use Rattle.std.proofs.Common.{◌≡◌, ℕ, zero, suc, ◌+◌, ◌-◌, ◌<◌, ◌≤◌, ◌==◌, if◌then◌else◌, Bool, true, false, List, [], ◌∷◌, map, take, length, Result, Ok, Err, OnOk, get_or, nat_lt, refl, sym, ap, ◌∙◌, subst, arith}
 use Rattle.std.specs.List.{AllByRecursion}
 use Rattle.std.proofs.lemmas.Bool.Decides.{nat_tests}
 use Rattle.std.proofs.lemmas.List.{length-set, length-map}
+use Rattle.ax_values.specs.declared.cell.Cell.{Cell}
+use Rattle.ax_log.specs.Puts.{Room as LogRoom, LogView, HasRoom as HasLogRoom, IsKept, IsKnown, after_put}
+use Rattle.ax_log.specs.declared.put.CellPut.{CellPut}
 use Rattle.ax_state.specs.Every.{count, one}
 use Rattle.ax_world.specs.Whole.{Whole, PlaceView, Room, room_in, rows_room, place_at}
 use Rattle.ax_world.specs.Made.{made, with_shelf}
-use Rattle.ax_world.specs.Fits.{CanMake, CanMakeAll, HasRoom, Leaves, is_cells, cells_put, puts_row}
+use Rattle.ax_world.specs.Fits.{CanMake, CanMakeAll, HasCells, HasRoom, Leaves, is_cells, puts_row}
 use Rattle.ax_projections.specs.Table.{put_entry}
 use Rattle.ax_world.specs.declared.edit.Edit.{Edit}
 
 -- ---- an edit is made
 
-others-quiet : (n : ℕ) (es : List Edit) → count is_cells es ≤ 0 → AllByRecursion (λ e. cells_put e ≤ n) es
-others-quiet n [] h = tt
-others-quiet n (Edit.Clock now ∷ es) h = (omega arith, others-quiet n es (omega arith))
-others-quiet n (Edit.Fence fence ∷ es) h = (omega arith, others-quiet n es (omega arith))
-others-quiet n (Edit.Cells puts ∷ es) h = absurd (omega arith)
-others-quiet n (Edit.SetRows p rows ∷ es) h = (omega arith, others-quiet n es (omega arith))
-others-quiet n (Edit.PutRow p a v ∷ es) h = (omega arith, others-quiet n es (omega arith))
-others-quiet n (Edit.SetDesk k desk ∷ es) h = (omega arith, others-quiet n es (omega arith))
+others-quiet : (room : LogRoom) (es : List Edit) → count is_cells es ≤ 0 → AllByRecursion (HasCells room) es
+others-quiet room [] h = tt
+others-quiet room (Edit.Clock now ∷ es) h = (tt, others-quiet room es (omega arith))
+others-quiet room (Edit.Fence fence ∷ es) h = (tt, others-quiet room es (omega arith))
+others-quiet room (Edit.Cells puts ∷ es) h = absurd (omega arith)
+others-quiet room (Edit.SetRows p rows ∷ es) h = (tt, others-quiet room es (omega arith))
+others-quiet room (Edit.PutRow p a v ∷ es) h = (tt, others-quiet room es (omega arith))
+others-quiet room (Edit.SetDesk k desk ∷ es) h = (tt, others-quiet room es (omega arith))
 
-more-cells : (n m : ℕ) (es : List Edit) → n ≤ m → AllByRecursion (λ e. cells_put e ≤ n) es → AllByRecursion (λ e. cells_put e ≤ m) es
-more-cells n m [] h k = tt
-more-cells n m (e ∷ es) h k = (let c : cells_put e ≤ n = k.0 in omega arith, more-cells n m es h k.1)
-
-cells-left : (old new : Room) (e : Edit) (es : List Edit) → count is_cells (e ∷ es) ≤ 1 → AllByRecursion (λ x. cells_put x ≤ old.cells) es → old.cells ≤ new.cells + cells_put e → AllByRecursion (λ x. cells_put x ≤ new.cells) es
-cells-left old new (Edit.Clock now) es h k l = more-cells old.cells new.cells es (omega arith) k
-cells-left old new (Edit.Fence fence) es h k l = more-cells old.cells new.cells es (omega arith) k
-cells-left old new (Edit.Cells puts) es h k l = others-quiet new.cells es (omega arith)
-cells-left old new (Edit.SetRows p rows) es h k l = more-cells old.cells new.cells es (omega arith) k
-cells-left old new (Edit.PutRow p a v) es h k l = more-cells old.cells new.cells es (omega arith) k
-cells-left old new (Edit.SetDesk i desk) es h k l = more-cells old.cells new.cells es (omega arith) k
+-- behind the one edit that puts cells no room is wanted
+cells-left : (old new : Room) (e : Edit) (es : List Edit) → count is_cells (e ∷ es) ≤ 1 → AllByRecursion (HasCells old.log) es → (is_cells e ≡ false → new.log ≡ old.log) → AllByRecursion (HasCells new.log) es
+cells-left old new e es h k l = at (is_cells e) refl
+  where
+    at : (b : Bool) → is_cells e ≡ b → AllByRecursion (HasCells new.log) es
+    at true c = let one_is : one (is_cells e) ≡ 1 = ap one c in others-quiet new.log es (omega arith)
+    at false c = subst (λ (room : LogRoom). AllByRecursion (HasCells room) es) (sym (l c)) k
 
 pub room-left : (old new : Room) (e : Edit) (es : List Edit) → count is_cells (e ∷ es) ≤ 1 → HasRoom old (e ∷ es) → Leaves old new e → HasRoom new es
 room-left old new e es h k l = record {
-  cells = cells-left old new e es h k.cells.1 l.cells;
+  log = cells-left old new e es h k.log.1 l.log;
   rows = λ q. (let a : one (puts_row q e) + count (puts_row q) es ≤ rows_room old q = k.rows q in let b : rows_room old q ≤ rows_room new q + one (puts_row q e) = l.rows q in omega arith);
 }
 
 pub single-left : (e : Edit) (es : List Edit) → count is_cells (e ∷ es) ≤ 1 → count is_cells es ≤ 1
 single-left e es h = omega arith
+
+-- ---- cells are put
+
+pub room-behind : (log : LogView) (p : CellPut) (ps : List CellPut) → HasLogRoom log.room (p ∷ ps) → HasLogRoom (after_put log p).room ps
+room-behind log p ps h = record { cells = at (p.index == length log.cells) h.cells; names = h.names.1 }
+  where
+    at : (b : Bool) → suc (length ps) ≤ log.room.cells → length ps ≤ (if b then log.room.cells - 1 else log.room.cells)
+    at true le = omega arith
+    at false le = omega arith
+
+kept-cell : (old new : LogRoom) (x : Cell) → IsKept old new → IsKnown old.names x → IsKnown new.names x
+kept-cell old new (Cell.Reserved a s w t) k h = tt
+kept-cell old new Cell.Void k h = tt
+kept-cell old new (Cell.Event r) k h = k.names r.aggregate h
+
+kept-puts : (old new : LogRoom) (ps : List CellPut) → IsKept old new → AllByRecursion (λ p. IsKnown old.names p.cell) ps → AllByRecursion (λ p. IsKnown new.names p.cell) ps
+kept-puts old new [] k h = tt
+kept-puts old new (p ∷ ps) k h = (kept-cell old new p.cell k h.0, kept-puts old new ps k h.1)
+
+pub kept-cells : (old new : LogRoom) → IsKept old new → (e : Edit) → HasCells old e → HasCells new e
+kept-cells old new k (Edit.Clock now) h = tt
+kept-cells old new k (Edit.Fence fence) h = tt
+kept-cells old new k (Edit.Cells puts) h = let le : length puts ≤ old.cells = h.cells in let more : old.cells ≤ new.cells = k.cells in record { cells = omega arith; names = kept-puts old new puts k h.names }
+kept-cells old new k (Edit.SetRows p rows) h = tt
+kept-cells old new k (Edit.PutRow p a v) h = tt
+kept-cells old new k (Edit.SetDesk i desk) h = tt
 
 -- ---- room is made
 
@@ -75,10 +100,10 @@ undeclared (e ∷ es) w q h k =
     let l : length (made w e).places ≡ length w.places = made-length w e in
     let ih : count (puts_row q) es ≡ 0 = undeclared es (made w e) q h.1 (omega arith) in omega arith
 
-pub room-made : {U E : Type 0} (r : Result U E) (w : Whole) (es : List Edit) (cells : ℕ) (old new : List PlaceView) → CanMakeAll w es → w.places ≡ map (λ x. x.place) old → map (λ x. x.place) new ≡ map (λ x. x.place) old
-    → AllByRecursion (λ e. cells_put e ≤ cells) es → OnOk r ((q : ℕ) → q < length new → count (puts_row q) es ≤ room_in (map (λ x. x.room) new) q) → OnOk r (HasRoom (record { cells = cells; rows = map (λ x. x.room) new }) es)
-room-made (Err e) w es cells old new can is same c h = tt
-room-made (Ok u) w es cells old new can is same c h = record { cells = c; rows = λ q. at q (nat_lt q (length new)) refl }
+pub room-made : {U E : Type 0} (r : Result U E) (w : Whole) (es : List Edit) (log : LogRoom) (old new : List PlaceView) → CanMakeAll w es → w.places ≡ map (λ x. x.place) old → map (λ x. x.place) new ≡ map (λ x. x.place) old
+    → AllByRecursion (HasCells log) es → OnOk r ((q : ℕ) → q < length new → count (puts_row q) es ≤ room_in (map (λ x. x.room) new) q) → OnOk r (HasRoom (record { log = log; rows = map (λ x. x.room) new }) es)
+room-made (Err e) w es log old new can is same c h = tt
+room-made (Ok u) w es log old new can is same c h = record { log = c; rows = λ q. at q (nat_lt q (length new)) refl }
   where
     lengths : length w.places ≡ length new
     lengths = ap length is ∙ ap length (sym same) ∙ length-map new (λ x. x.place)

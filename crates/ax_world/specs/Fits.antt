@@ -3,7 +3,7 @@ use Rattle.std.specs.Prelude.{◌≡◌, ℕ, ◌+◌, ◌-◌, ◌^◌, ◌<◌
 use Rattle.std.specs.List.{AllByRecursion}
 use Rattle.ax_values.specs.Grammar.{Name}
 use Rattle.ax_log.specs.Log.{Stored, events}
-use Rattle.ax_log.specs.Puts.{CanPutAll}
+use Rattle.ax_log.specs.Puts.{CanPutAll, Room as LogRoom, HasRoom as HasLogRoom}
 use Rattle.ax_rules.specs.Rules.{start_row, row_or}
 use Rattle.ax_projections.specs.Table.{look_up}
 use Rattle.ax_state.specs.Every.{AllFrom, count, one}
@@ -71,15 +71,16 @@ pub record Fits (w : Whole) (es : List Edit) : Type 0 where
 
 -- ---- room
 
--- how many cells an edit puts, and how many rows of a processor
-abbrev pub cells_put : Edit → ℕ
-cells_put (Edit.Clock now) = 0
-cells_put (Edit.Fence fence) = 0
-cells_put (Edit.Cells puts) = length puts
-cells_put (Edit.SetRows p rows) = 0
-cells_put (Edit.PutRow p a v) = 0
-cells_put (Edit.SetDesk k desk) = 0
+-- the cells of an edit take no memory
+abbrev pub HasCells : LogRoom → Edit → Type 0
+HasCells room (Edit.Clock now) = Unit {0}
+HasCells room (Edit.Fence fence) = Unit {0}
+HasCells room (Edit.Cells puts) = HasLogRoom room puts
+HasCells room (Edit.SetRows p rows) = Unit {0}
+HasCells room (Edit.PutRow p a v) = Unit {0}
+HasCells room (Edit.SetDesk k desk) = Unit {0}
 
+-- whether an edit puts a row of a processor
 abbrev pub puts_row : ℕ → Edit → Bool
 puts_row q (Edit.Clock now) = false
 puts_row q (Edit.Fence fence) = false
@@ -90,10 +91,10 @@ puts_row q (Edit.SetDesk k desk) = false
 
 -- the edits take no memory
 pub record HasRoom (room : Room) (es : List Edit) : Type 0 where
-  pub cells : AllByRecursion (λ e. cells_put e ≤ room.cells) es
+  pub log : AllByRecursion (HasCells room.log) es
   pub rows : (q : ℕ) → count (puts_row q) es ≤ rows_room room q
 
 -- what an edit leaves of the room
 pub record Leaves (old new : Room) (e : Edit) : Type 0 where
-  pub cells : old.cells ≤ new.cells + cells_put e
+  pub log : is_cells e ≡ false → new.log ≡ old.log
   pub rows : (q : ℕ) → rows_room old q ≤ rows_room new q + one (puts_row q e)

@@ -1,5 +1,6 @@
 -- What contracts see of a world: what it keeps, and for how much more there is room.
 use Rattle.std.specs.Prelude.{ℕ, List, [], map, slice_get}
+use Rattle.ax_log.specs.Puts.{Room as LogRoom}
 use Rattle.ax_projections.specs.Table.{Entry}
 use Rattle.ax_state.specs.Every.{option_or}
 use Rattle.ax_state.specs.Setting.{Setting}
@@ -53,9 +54,9 @@ starting s = record {
   desks = map (λ actor. empty_desk) s.actors;
 }
 
--- how many cells and, by processor, how many new rows take no memory
+-- which cells and, by processor, how many new rows take no memory
 pub record Room : Type 0 where
-  pub cells : ℕ
+  pub log : LogRoom
   pub rows : List ℕ
 
 -- for how many new rows of a processor

@@ -1,4 +1,5 @@
 ghost use Rattle.std.specs.Prelude.{◌≡◌, IfOk};
+ghost use Rattle.ax_state.specs.Holding.{is_held_at};
 
 use ax_segments::Segment;
 use ax_tokens::Token;
@@ -81,6 +82,15 @@ impl Model for Desk {
     ghost coded = { Prim.hlevel (codes, coded_token) };
 
     ghost view = { λ desk. record { held = desk.held; reservation = desk.reservation; batch = desk.batch } };
+}
+
+impl Held {
+    /// Whether the fence is that of a segment of the processor.
+    pub fn is_at(&self, processor: u32, segment: Segment) -> bool
+        ensures { result ≡ is_held_at processor segment self.now }
+    {
+        self.processor == processor && self.segment == segment
+    }
 }
 
 impl Duplicate for Held {

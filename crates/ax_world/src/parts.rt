@@ -1,10 +1,10 @@
 ghost use Rattle.std.specs.Prelude.{◌≡◌, ℕ, ◌+◌, ◌^◌, ◌<◌, ◌≤◌, length, OnOk};
 ghost use Rattle.std.specs.List.{AllByRecursion};
-ghost use Rattle.ax_log.specs.Puts.{CanPutAll, put_all};
+ghost use Rattle.ax_log.specs.Puts.{CanPutAll, HasRoom as HasLogRoom, IsKept, put_all};
 ghost use Rattle.ax_state.specs.Every.{count, one};
 ghost use Rattle.ax_world.specs.Whole.{rows_room};
 ghost use Rattle.ax_world.specs.Made.{made, made_all};
-ghost use Rattle.ax_world.specs.Fits.{CanMake, CanMakeAll, HasRoom, Leaves, is_cells, cells_put, puts_row};
+ghost use Rattle.ax_world.specs.Fits.{CanMake, CanMakeAll, HasCells, HasRoom, Leaves, is_cells, puts_row};
 
 use crate::place::{Place, put_row, reserve_rows, set_rows};
 use crate::{Desk, Edit, Edits};
@@ -46,7 +46,7 @@ impl Model for Parts {
         places = map (λ x. x.place) w.places.items;
         desks = w.desks.items;
       };
-      room = record { cells = w.log.room; rows = map (λ x. x.room) w.places.items };
+      room = record { log = w.log.room; rows = map (λ x. x.room) w.places.items };
     } };
 }
 
@@ -54,7 +54,7 @@ impl Parts {
     /// Makes one edit. It takes no memory.
     fn make(&mut self, edit: Edit)
         requires can { CanMake self.old.whole edit }
-        requires cells { cells_put edit ≤ self.old.room.cells }
+        requires cells { HasCells self.old.room.log edit }
         requires rows { (q : ℕ) → one (puts_row q edit) ≤ rows_room self.old.room q }
         ensures whole { self.new.whole ≡ made self.old.whole edit }
         ensures room { Leaves self.old.room self.new.room edit }
@@ -102,7 +102,7 @@ impl Parts {
 /// Makes room for the cells of the edits. The log's cells stay, also where memory is wanting.
 fn reserve_cells(log: &mut Log, edits: &[Edit]) -> Result<(), NoMemory>
     ensures cells { log.new.cells ≡ log.old.cells }
-    ensures room { OnOk result (AllByRecursion (λ e. cells_put e ≤ log.new.room) edits.now) }
+    ensures room { OnOk result (AllByRecursion (HasCells log.new.room) edits.now) }
 {
     for edit in edits {
         reserve_cells_of(log, edit)?;
@@ -112,8 +112,8 @@ fn reserve_cells(log: &mut Log, edits: &[Edit]) -> Result<(), NoMemory>
 
 fn reserve_cells_of(log: &mut Log, edit: &Edit) -> Result<(), NoMemory>
     ensures cells { log.new.cells ≡ log.old.cells }
-    ensures room { OnOk result (cells_put edit.now ≤ log.new.room) }
-    ensures more { log.old.room ≤ log.new.room }
+    ensures room { OnOk result (HasCells log.new.room edit.now) }
+    ensures more { IsKept log.old.room log.new.room }
 {
     match edit {
         Edit::Cells(puts) => log.room(puts.parts()),
@@ -123,12 +123,11 @@ fn reserve_cells_of(log: &mut Log, edit: &Edit) -> Result<(), NoMemory>
 
 /// Puts the cells into the log, in order. It takes no memory.
 fn put_all(log: &mut Log, puts: CellPuts)
-    requires room { length puts ≤ log.old.room }
+    requires room { HasLogRoom log.old.room puts }
     requires can { CanPutAll log.old.cells puts }
-    ensures cells { log.new.cells ≡ put_all puts log.old.cells }
-    ensures room { log.old.room ≤ log.new.room + length puts }
+    ensures { log.new.cells ≡ put_all puts log.old.cells }
 {
-    for put in puts.into_parts() {
-        log.put(put);
+    for change in puts.into_parts() {
+        log.put(change);
     }
 }

@@ -1,7 +1,7 @@
 ghost use Rattle.std.specs.Prelude.{◌≡◌, ◌+◌, ◌^◌, ◌<◌, ◌≤◌, ◌*◌, [], length, map, slice_get, IsTrue, IfOk, OnOk};
 ghost use Rattle.std.specs.Option.{option_copied};
 ghost use Rattle.ax_state.specs.Every.{count};
-ghost use Rattle.ax_state.specs.Setting.{IsSetting, processor_number};
+ghost use Rattle.ax_state.specs.Setting.{IsSetting, is_projection, processor_number, projection_at};
 ghost use Rattle.ax_world.specs.Whole.{starting, place_at};
 ghost use Rattle.ax_world.specs.Made.{made_all};
 ghost use Rattle.ax_world.specs.Fits.{IsWorld, Fits, HasRoom};
@@ -13,6 +13,7 @@ use crate::{Desk, Edits};
 use ax_claims::Rows;
 use ax_log::Log;
 use ax_projections::Table;
+use ax_rules::Rules;
 use ax_sheet::{Processors, Sheet};
 use ax_values::{Name, Names, NoMemory};
 use std::alloc::Global;
@@ -89,6 +90,19 @@ impl World {
         ensures { result ≡ processor_number self.now.whole.setting.processors name.now }
     {
         number_of(self.parts.processors.parts(), name)
+    }
+
+    /// The rules of a projection processor.
+    pub fn projection(&self, processor: u32) -> &Rules
+        requires { IsTrue (is_projection self.now.whole.setting processor) }
+        ensures { result.now ≡ projection_at self.now.whole.setting processor }
+    {
+        let _ = self.clock();
+        let declared = &self.processors().parts()[processor as usize];
+        let Some(rules) = self.sheet().projection(&declared.name) else {
+            unreachable!()
+        };
+        rules
     }
 
     /// The actors, in the order of the head.
