@@ -1,45 +1,51 @@
--- The items of an aggregate, cell by cell, and the fold that goes on with those of one cell more.
-use Rattle.std.proofs.Common.{◌≡◌, ℕ, suc, ◌+◌, ◌<◌, get_or, drop, drop-cons, Bool, true, false, cond, List, [], ◌∷◌, ◌++◌, length, map, filter, refl, sym, ap, ap₂, ◌∙◌, arith}
-use Rattle.std.specs.List.{flat_map}
+-- The items of the cells of a stream, and the fold that goes on with those of one cell more.
+use Rattle.std.proofs.Common.{◌≡◌, ℕ, suc, ◌+◌, ◌<◌, get_or, drop, drop-cons, List, [], ◌∷◌, ◌++◌, length, map, Some, slice_get, refl, sym, ap, ap₂, ◌∙◌, arith}
+use Rattle.std.specs.List.{AllByRecursion, flat_map}
 use Rattle.std.proofs.lemmas.List.{map-append}
 use Rattle.ax_values.specs.Grammar.{Name}
-use Rattle.ax_values.specs.Words.{same_name}
-use Rattle.ax_log.specs.Log.{events_from, is_of}
+use Rattle.ax_log.specs.Log.{Stored, stream_of}
+use Rattle.ax_log.proofs.Events.{stream_cell}
 use Rattle.ax_rules.specs.Expr.{Row}
-use Rattle.ax_rules.specs.Rules.{Rules, lenient, lenient_from}
+use Rattle.ax_rules.specs.Rules.{Rules, start_row, lenient, lenient_from}
 use Rattle.ax_upcast.specs.Upcast.{upcast}
 use Rattle.ax_projections.specs.Items.{Placed, placed, placed_items, items_of, plain_items}
 use Rattle.ax_projections.proofs.RowLaws.{lenient-append}
-use Rattle.ax_step_log.specs.Made.{own_items, cells_items}
+use Rattle.ax_step_log.specs.Made.{found_items, listed_items}
 use Rattle.ax_values.specs.declared.cell.Cell.{Cell}
 use Rattle.ax_values.specs.declared.item.Item.{Item}
 use Rattle.ax_upcast.specs.declared.upcaster.Upcaster.{Upcaster}
+
+-- the event is that of the cell at its index
+abbrev pub StandsIn : List Cell → Stored → Type 0
+StandsIn cells e = slice_get cells e.index ≡ Some (Cell.Event e.record_of)
+
+all-stand : (cells : List Cell) (es : List Stored) → ((k : ℕ) (e : Stored) → slice_get es k ≡ Some e → StandsIn cells e) → AllByRecursion (StandsIn cells) es
+all-stand cells [] h = tt
+all-stand cells (e ∷ es) h = (h 0 e refl, all-stand cells es (λ k x g. h (suc k) x g))
 
 plain-placed : (i : ℕ) (xs : List Item) → plain_items (map (placed i) xs) ≡ xs
 plain-placed i [] = refl
 plain-placed i (x ∷ xs) = ap (λ ys. x ∷ ys) (plain-placed i xs)
 
-from-cells : (chain : List Upcaster) (a : Name) (k : ℕ) (cells : List Cell) → plain_items (flat_map (placed_items chain) (filter (is_of a) (events_from k cells))) ≡ cells_items chain a cells
-from-cells chain a k [] = refl
-from-cells chain a k (Cell.Reserved b s w t ∷ cs) = from-cells chain a (suc k) cs
-from-cells chain a k (Cell.Void ∷ cs) = from-cells chain a (suc k) cs
-from-cells chain a k (Cell.Event r ∷ cs) = at (same_name r.aggregate a) (from-cells chain a (suc k) cs)
-  where
-    at : (b : Bool) → plain_items (flat_map (placed_items chain) (filter (is_of a) (events_from (suc k) cs))) ≡ cells_items chain a cs
-        → plain_items (flat_map (placed_items chain) (cond b (record { index = k; record_of = r } ∷ filter (is_of a) (events_from (suc k) cs)) (filter (is_of a) (events_from (suc k) cs)))) ≡ cond b (upcast chain r) [] ++ cells_items chain a cs
-    at true h =
-        map-append (λ (x : Placed). x.item) (map (placed k) (upcast chain r)) (flat_map (placed_items chain) (filter (is_of a) (events_from (suc k) cs)))
-        ∙ ap₂ (λ (xs ys : List Item). xs ++ ys) (plain-placed k (upcast chain r)) h
-    at false h = h
+listed : (chain : List Upcaster) (cells : List Cell) (es : List Stored) → AllByRecursion (StandsIn cells) es → listed_items chain cells (map (λ e. e.index) es) ≡ plain_items (flat_map (placed_items chain) es)
+listed chain cells [] h = refl
+listed chain cells (e ∷ es) h =
+    ap₂ (λ (xs ys : List Item). xs ++ ys) (ap (found_items chain) h.0 ∙ sym (plain-placed e.index (upcast chain e.record_of))) (listed chain cells es h.1)
+    ∙ sym (map-append (λ (x : Placed). x.item) (map (placed e.index) (upcast chain e.record_of)) (flat_map (placed_items chain) es))
 
 -- the row of all items
-pub whole-row : (rules : Rules) (chain : List Upcaster) (a : Name) (cells : List Cell) → lenient rules (cells_items chain a cells) ≡ lenient rules (plain_items (items_of chain a cells))
-whole-row rules chain a cells = ap (lenient rules) (sym (from-cells chain a 0 cells))
+pub whole_row : (rules : Rules) (chain : List Upcaster) (a : Name) (cells : List Cell) (indexes : List ℕ) (first row : Row) → indexes ≡ map (λ (e : Stored). e.index) (stream_of a cells) → first ≡ start_row rules.fields
+    → row ≡ lenient_from rules (listed_items chain cells indexes) first → row ≡ lenient rules (plain_items (items_of chain a cells))
+whole_row rules chain a cells indexes first row is start h =
+    h
+    ∙ ap (λ (is : List ℕ). lenient_from rules (listed_items chain cells is) first) is
+    ∙ ap (λ (xs : List Item). lenient_from rules xs first) (listed chain cells (stream_of a cells) (all-stand cells (stream_of a cells) (stream_cell a cells)))
+    ∙ ap (lenient_from rules (plain_items (items_of chain a cells))) start
 
-pub next-cell : (rules : Rules) (chain : List Upcaster) (a : Name) (cells : List Cell) (i : ℕ) (c : Cell) (row : Row) → i < length cells → c ≡ get_or cells i c
-    → lenient_from rules (cells_items chain a (drop (i + 1) cells)) (lenient_from rules (own_items chain a c) row) ≡ lenient_from rules (cells_items chain a (drop i cells)) row
-next-cell rules chain a cells i c row l e =
-    let next : i + 1 ≡ suc i = omega arith in
-    sym (lenient-append rules (own_items chain a c) (cells_items chain a (drop (i + 1) cells)) row)
-    ∙ ap (λ (n : ℕ). lenient_from rules (own_items chain a c ++ cells_items chain a (drop n cells)) row) next
-    ∙ ap (λ (cs : List Cell). lenient_from rules (cells_items chain a cs) row) (ap (λ (d : Cell). d ∷ drop (suc i) cells) e ∙ sym (drop-cons cells i c l))
+pub next-cell : (rules : Rules) (chain : List Upcaster) (cells : List Cell) (indexes : List ℕ) (k : ℕ) (row : Row) → k < length indexes
+    → lenient_from rules (listed_items chain cells (drop (k + 1) indexes)) (lenient_from rules (found_items chain (slice_get cells (get_or indexes k 0))) row) ≡ lenient_from rules (listed_items chain cells (drop k indexes)) row
+next-cell rules chain cells indexes k row l =
+    let next : k + 1 ≡ suc k = omega arith in
+    sym (lenient-append rules (found_items chain (slice_get cells (get_or indexes k 0))) (listed_items chain cells (drop (k + 1) indexes)) row)
+    ∙ ap (λ (n : ℕ). lenient_from rules (found_items chain (slice_get cells (get_or indexes k 0)) ++ listed_items chain cells (drop n indexes)) row) next
+    ∙ ap (λ (is : List ℕ). lenient_from rules (listed_items chain cells is) row) (sym (drop-cons indexes k 0 l))

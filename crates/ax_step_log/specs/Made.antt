@@ -1,8 +1,6 @@
--- What the parts of a step make: an aggregate's items cell by cell, events that fit into the log, and puts that make cells void.
+-- What the parts of a step make: the items of cells, events that fit into the log, and puts that make cells void.
 use Rattle.std.specs.Prelude.{◌≡◌, ℕ, zero, suc, ◌<◌, ◌≤◌, Bool, true, List, [], ◌∷◌, ◌++◌, length, Option, Some, None, nat_le, slice_get, if◌then◌else◌}
 use Rattle.std.specs.List.{list_all}
-use Rattle.ax_values.specs.Grammar.{Name}
-use Rattle.ax_values.specs.Words.{same_name}
 use Rattle.ax_log.specs.Log.{is_reserved, option_is}
 use Rattle.ax_log.specs.Order.{max_fields}
 use Rattle.ax_upcast.specs.Upcast.{upcast}
@@ -14,17 +12,19 @@ use Rattle.ax_upcast.specs.declared.event.Event.{Event}
 use Rattle.ax_upcast.specs.declared.upcaster.Upcaster.{Upcaster}
 use Rattle.ax_sheet.specs.declared.decision.Decided.{Decided}
 
--- ---- an aggregate's items
+-- ---- items
 
--- the items that a cell has of an aggregate
-abbrev pub own_items : List Upcaster → Name → Cell → List Item
-own_items chain a (Cell.Event r) = if same_name r.aggregate a then upcast chain r else []
-own_items chain a (Cell.Reserved b s w t) = []
-own_items chain a Cell.Void = []
+-- the items of a cell
+abbrev pub found_items : List Upcaster → Option Cell → List Item
+found_items chain None = []
+found_items chain (Some (Cell.Event r)) = upcast chain r
+found_items chain (Some (Cell.Reserved b s w t)) = []
+found_items chain (Some Cell.Void) = []
 
-abbrev pub cells_items : List Upcaster → Name → List Cell → List Item
-cells_items chain a [] = []
-cells_items chain a (c ∷ cells) = own_items chain a c ++ cells_items chain a cells
+-- the items of the cells at these indexes
+abbrev pub listed_items : List Upcaster → List Cell → List ℕ → List Item
+listed_items chain cells [] = []
+listed_items chain cells (i ∷ is) = found_items chain (slice_get cells i) ++ listed_items chain cells is
 
 -- ---- events
 

@@ -53,7 +53,7 @@ fn decided(
     let sheet = world.sheet();
     let row = aggregate_row(
         alloc,
-        world.log().cells(),
+        world.log(),
         sheet.chain(),
         sheet.aggregate(),
         aggregate,
