@@ -4,6 +4,8 @@ use Rattle.std.proofs.lemmas.Bool.Decides.{nat_tests}
 use Rattle.ax_log.specs.Log.{Stored, events_from, events}
 use Rattle.ax_segments.specs.Segments.{Segment}
 use Rattle.ax_tokens.specs.Tokens.{Token, advanced, collapsed, gaps_fit}
+use Rattle.ax_step_work.specs.Reach.{IsCoveredBelow}
+use Rattle.ax_step_work.proofs.Reached.{new-from}
 use Rattle.ax_step_work.specs.Working.{is_new, new_below, is_fetchable, largest, fetch_bound, fetched_token}
 use Rattle.ax_values.specs.declared.cell.Cell.{Cell}
 use Rattle.ax_values.specs.declared.record.Record.{Record}
@@ -66,8 +68,8 @@ module _ (s : Segment) (t : Token) where
       and-false true = refl
       and-false false = refl
 
-  pub counted-start : (cells : List Cell) → IsCounted cells 0 0
-  counted-start cells b le = omega arith
+  pub counted-start : (cells : List Cell) (least first : ℕ) → IsCoveredBelow t least → first ≤ least → IsCounted cells 0 first
+  counted-start cells least first h le b low = let same : length (new_below s t (left cells first) b) ≡ length (new_below s t (events cells) b) = ap length (new-from s t least first b cells h le) in omega arith
 
   head-in : (cells : List Cell) (i b : ℕ) (r : Record) → is_new s t (record { index = i; record_of = r }) ≡ true → i < b → left cells i ≡ record { index = i; record_of = r } ∷ left cells (i + 1)
       → length (new_below s t (left cells i) b) ≡ 1 + length (new_below s t (left cells (i + 1)) b)

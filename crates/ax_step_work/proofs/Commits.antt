@@ -1,13 +1,12 @@
 -- The moves of a commit: what it refuses changes no row, and what it installs leads to the state of the definition.
-use Rattle.std.proofs.Common.{◌≡◌, ℕ, zero, suc, ◌+◌, ◌<◌, ◌≤◌, ◌==◌, Bool, true, false, not, List, [], ◌∷◌, ◌++◌, length, map, get_or, Option, Some, None, Result, Ok, Err, is_some, slice_get, slice_set, if◌then◌else◌, nat_lt, refl, sym, ap, ◌∙◌, subst, true≢false, arith}
+use Rattle.std.proofs.Common.{◌≡◌, ℕ, zero, suc, ◌+◌, ◌<◌, ◌≤◌, ◌==◌, Bool, true, false, List, [], ◌∷◌, ◌++◌, length, map, Option, Some, None, Result, Ok, Err, slice_get, slice_set, if◌then◌else◌, nat_lt, refl, sym, ap, ◌∙◌, subst, arith}
 use Rattle.std.specs.Prelude.{IfSome, IfOk}
-use Rattle.std.specs.List.{IsDistinct, list_all}
+use Rattle.std.specs.List.{IsDistinct}
 use Rattle.std.proofs.lemmas.Bool.Decides.{nat_tests}
 use Rattle.std.proofs.lemmas.List.{length-map, length-append, length-set}
 use Rattle.ax_values.specs.Grammar.{Name}
 use Rattle.ax_values.specs.Words.{same_name}
-use Rattle.ax_values.proofs.Options.{both}
-use Rattle.ax_log.specs.Log.{Stored, events, option_is}
+use Rattle.ax_log.specs.Log.{Stored, events}
 use Rattle.ax_rules.specs.Expr.{Row}
 use Rattle.ax_rules.specs.Rules.{Rules, fold_items, start_row, row_or}
 use Rattle.ax_rules.specs.Why.{why_text}
@@ -17,11 +16,8 @@ use Rattle.ax_projections.specs.Table.{Entry, look_up, put_entry}
 use Rattle.ax_projections.specs.Items.{Placed, plain_items}
 use Rattle.ax_projections.specs.Rebuild.{or_start}
 use Rattle.ax_claims.specs.Rows.{TokenRow, row_at, put_row}
-use Rattle.ax_claims.proofs.Places.{get-read, get-within}
-use Rattle.ax_sheet.specs.Sheet.{Sheet, projection_named, saga_named}
-use Rattle.ax_sheet.specs.Declarations.{AreProcessors, is_of_sheet}
 use Rattle.ax_state.specs.Every.{AllFrom, count, option_or}
-use Rattle.ax_state.specs.Setting.{Setting, is_projection, projection_at, processor_at, no_rules, no_processor}
+use Rattle.ax_state.specs.Setting.{is_projection, projection_at}
 use Rattle.ax_state.specs.State.{State, Shelf, Desk, Batch, shelf_at, desk_at, empty_desk, empty_shelf}
 use Rattle.ax_state.specs.Answer.{Answer, answer}
 use Rattle.ax_state.specs.Portions.{portions, covered_events, items_in, row_by}
@@ -33,6 +29,7 @@ use Rattle.ax_world.specs.Fits.{IsWorld, IsTable, CanMakeAll, is_cells, row_if, 
 use Rattle.ax_world.specs.Moves.{IsMove}
 use Rattle.ax_world.proofs.Kept.{map_set, set_same}
 use Rattle.ax_world.proofs.Moves.{unmoved, moved}
+use Rattle.ax_world.proofs.Projections.{projection-within}
 use Rattle.ax_world.proofs.Shelves.{get-at, shelf-place}
 use Rattle.ax_step_work.specs.Working.{Failure, first_failure, share_of, present_row, batch_items, installed, committed, commit_over, with_batch}
 use Rattle.ax_step_work.specs.Handling.{Progress, nothing, first_of, present, handled, IsFitting, row_edits, stored_or}
@@ -44,46 +41,11 @@ use Rattle.ax_step_work.proofs.Tables.{no-items, events-few, rows-few, covered-f
 use Rattle.ax_rules.specs.declared.cause.Cause.{Cause}
 use Rattle.ax_rules.specs.declared.why.Why.{Why}
 use Rattle.ax_journal.specs.declared.reply.Reply.{Reply}
-use Rattle.ax_sheet.specs.declared.parts.Processor.{Processor}
 use Rattle.ax_projections.specs.declared.table.Positioned.{Positioned}
 use Rattle.ax_upcast.specs.declared.upcaster.Upcaster.{Upcaster}
 use Rattle.ax_world.specs.declared.edit.Edit.{Edit}
 use Rattle.ax_world.specs.declared.edit.Move.{Move}
 use Rattle.ax_values.specs.declared.cell.Cell.{Cell}
-
--- ---- declared projections
-
-one-of : {A : Type 0} (t : A → Bool) (xs : List A) (p : ℕ) (x : A) → list_all t xs ≡ true → slice_get xs p ≡ Some x → t x ≡ true
-one-of t [] p x h e = absurd (cc)
-one-of t (y ∷ ys) zero x h e = let is : y ≡ x = cc in ap t (sym is) ∙ (both (t y) (list_all t ys) h).0
-one-of t (y ∷ ys) (suc p) x h e = one-of t ys p x (both (t y) (list_all t ys) h).1 e
-
-some-there : (o : Option Processor) → option_is (λ q. not q.saga) o ≡ true → (q : Processor) × (o ≡ Some q) × (not q.saga ≡ true)
-some-there None h = absurd (cc)
-some-there (Some q) h = (q, refl, h)
-
-pub processor-within : (s : Setting) (p : ℕ) → is_projection s p ≡ true → p < length s.processors
-processor-within s p h = let k = some-there (slice_get s.processors p) h in get-within s.processors p k.0 k.1
-
-pub projection-read : (s : Setting) (p : ℕ) (procs : List Processor) (sheet : Sheet) (q : Processor) (o : Option Rules) (r : Rules) → is_projection s p ≡ true → q ≡ get_or procs p q → procs ≡ s.processors → sheet ≡ s.sheet → o ≡ projection_named sheet q.name → o ≡ Some r → r ≡ projection_at s p
-projection-read s p procs sheet q o r proj e same is value some =
-    let at : slice_get s.processors p ≡ Some q = get-read s.processors p q (processor-within s p proj) (subst (λ ps. q ≡ get_or ps p q) same e) in
-    let named : processor_at s p ≡ q = ap (option_or no_processor) at in
-    ap (option_or no_rules) (sym some ∙ value ∙ ap (λ t. projection_named t q.name) is ∙ ap (λ (x : Processor). projection_named s.sheet x.name) (sym named))
-
-pub projection-found : (s : Setting) (p : ℕ) (procs : List Processor) (sheet : Sheet) (q : Processor) (o : Option Rules) → AreProcessors s.sheet s.processors → is_projection s p ≡ true → q ≡ get_or procs p q → procs ≡ s.processors → sheet ≡ s.sheet → o ≡ projection_named sheet q.name → o ≡ None → ⊥
-projection-found s p procs sheet q o h proj e same is value none =
-    let lt : p < length s.processors = processor-within s p proj in
-    let at : slice_get s.processors p ≡ Some q = get-read s.processors p q lt (subst (λ ps. q ≡ get_or ps p q) same e) in
-    let k = some-there (slice_get s.processors p) proj in
-    let found : k.0 ≡ q = (let g : Some k.0 ≡ Some q = sym k.1 ∙ at in cc) in
-    let fits : is_of_sheet s.sheet q ≡ true = one-of (is_of_sheet s.sheet) s.processors p q h.of_sheet at in
-    let some : is_some (projection_named s.sheet q.name) ≡ true = no-saga q.saga (subst (λ (x : Processor). not x.saga ≡ true) found k.2) fits in
-    absurd (true≢false (sym some ∙ ap is_some (ap (λ t. projection_named t q.name) (sym is) ∙ sym value ∙ none)))
-  where
-    no-saga : (b : Bool) → not b ≡ true → (if b then is_some (saga_named s.sheet q.name) else is_some (projection_named s.sheet q.name)) ≡ true → is_some (projection_named s.sheet q.name) ≡ true
-    no-saga true n f = absurd (cc)
-    no-saga false n f = f
 
 -- ---- edits
 
@@ -150,7 +112,7 @@ module _ (w : Whole) (actor : ℕ) (b : Batch) (h : IsWorld w) (mine : (desk_at 
   batch-within =
       let l : length (map (λ (x : Place). x.shelf) w.places) ≡ length w.places = length-map w.places (λ x. x.shelf) in
       let d : length (map (λ (x : Place). x.shelf) w.places) ≡ length w.setting.processors = h.state.declared in
-      let k : b.processor < length w.setting.processors = processor-within w.setting b.processor batch-declared in omega arith
+      let k : b.processor < length w.setting.processors = projection-within w.setting.processors b.processor batch-declared in omega arith
 
   abbrev emptied : Desk
   emptied = record (desk_at m actor) { batch = None }

@@ -1,8 +1,8 @@
 -- What a fetch answers: a refusal changes nothing, and a batch leads to the state of the definition.
-use Rattle.std.proofs.Common.{◌≡◌, ℕ, zero, suc, not, ◌<◌, ◌==◌, Bool, true, false, IsTrue, List, [], ◌∷◌, length, filter, Option, Some, None, Result, Ok, Err, slice_get, if◌then◌else◌, refl, sym, ap, ◌∙◌, subst, arith}
+use Rattle.std.proofs.Common.{◌≡◌, ℕ, ◌<◌, ◌==◌, Bool, true, false, IsTrue, List, [], ◌∷◌, length, filter, Option, Some, None, Result, Ok, Err, slice_get, if◌then◌else◌, refl, sym, ap, ◌∙◌, subst, arith}
 use Rattle.std.specs.Prelude.{IfOk}
 use Rattle.std.proofs.lemmas.Bool.Decides.{nat_tests}
-use Rattle.ax_log.specs.Log.{events, option_is}
+use Rattle.ax_log.specs.Log.{events}
 use Rattle.ax_segments.specs.Segments.{Segment}
 use Rattle.ax_tokens.specs.Tokens.{Token}
 use Rattle.ax_claims.specs.Rows.{TokenRow, row_at}
@@ -17,22 +17,17 @@ use Rattle.ax_world.specs.Made.{made_all}
 use Rattle.ax_world.specs.Fits.{IsWorld}
 use Rattle.ax_world.specs.Moves.{IsMove}
 use Rattle.ax_world.proofs.Moves.{unmoved, moved}
+use Rattle.ax_world.proofs.Projections.{projection-within}
 use Rattle.ax_world.proofs.Shelves.{get-at, shelf-place}
 use Rattle.ax_step_work.specs.Working.{is_fetched, batch_of, fetched, fetch_at, fetched_token}
 use Rattle.ax_step_work.proofs.FetchKept.{kept-fetched}
 use Rattle.ax_world.specs.declared.edit.Edit.{Edit}
 use Rattle.ax_journal.specs.declared.reply.Reply.{Reply}
-use Rattle.ax_sheet.specs.declared.parts.Processor.{Processor}
 use Rattle.ax_values.specs.declared.cell.Cell.{Cell}
 
 pub ok-map : {A E : Type 0} (r : Result A E) (P Q : A → Type 0) → ((x : A) → P x → Q x) → IfOk r P → IfOk r Q
 ok-map (Ok x) P Q f h = f x h
 ok-map (Err e) P Q f h = tt
-
-within : {A : Type 0} (f : A → Bool) (xs : List A) (p : ℕ) → IsTrue (option_is f (slice_get xs p)) → p < length xs
-within f [] p h = absurd (cc)
-within f (x ∷ xs) zero h = omega arith
-within f (x ∷ xs) (suc p) h = let less : p < length xs = within f xs p h in omega arith
 
 -- ---- the batch
 
@@ -66,7 +61,7 @@ fetch-move w actor p most row old new t n cells records h projection lt found he
     shelf : slice_get (state_of w).shelves p ≡ Some (place_at w p).shelf
     shelf =
         let l : length (state_of w).shelves ≡ length w.setting.processors = h.state.declared in
-        let lt : p < length w.setting.processors = within (λ (q : Processor). not q.saga) w.setting.processors p projection in
+        let lt : p < length w.setting.processors = projection-within w.setting.processors p projection in
         get-at empty_shelf (state_of w).shelves p (omega arith) ∙ ap Some (shelf-place w p)
 
     reply : Reply.Fetched records ≡ Reply.Fetched (length (filter (is_fetched row.segment row.token b.new) (events w.cells)))

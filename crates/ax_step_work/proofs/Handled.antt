@@ -153,10 +153,14 @@ module _ (chain : List Upcaster) (b : Batch) where
       at true = map-append (λ (x : Placed). x.item) (map (placed k) (upcast chain r)) (flat_map (placed_items chain) (fetched_events b (events_from (suc k) cells))) ∙ ap (λ xs. xs ++ left (suc k) cells) (plain-placed k (upcast chain r))
       at false = refl
 
-  pub next-cell : (cells : List Cell) (i : ℕ) (c : Cell) → i < length cells → c ≡ get_or cells i c → left i (drop i cells) ≡ cell_items chain b i c ++ left (i + 1) (drop (i + 1) cells)
-  next-cell cells i c l e =
+  -- first is the index of the first of the cells
+  pub next-cell : (first : ℕ) (cells : List Cell) (i : ℕ) (c : Cell) → i < length cells → c ≡ get_or cells i c → left (first + i) (drop i cells) ≡ cell_items chain b (first + i) c ++ left (first + (i + 1)) (drop (i + 1) cells)
+  next-cell first cells i c l e =
       let next : i + 1 ≡ suc i = omega arith in
-      ap (λ cs. left i cs) (drop-cons cells i c l ∙ ap (λ d. d ∷ drop (suc i) cells) (sym e)) ∙ cell-first i c (drop (suc i) cells) ∙ ap (λ n. cell_items chain b i c ++ left n (drop n cells)) (sym next)
+      let more : first + (i + 1) ≡ suc (first + i) = omega arith in
+      ap (λ cs. left (first + i) cs) (drop-cons cells i c l ∙ ap (λ d. d ∷ drop (suc i) cells) (sym e)) ∙ cell-first (first + i) c (drop (suc i) cells)
+      ∙ ap (λ n. cell_items chain b (first + i) c ++ left (suc (first + i)) (drop n cells)) (sym next)
+      ∙ ap (λ n. cell_items chain b (first + i) c ++ left n (drop (i + 1) cells)) (sym more)
 
 -- ---- steps of the loops
 
@@ -176,27 +180,27 @@ module _ (rules : Rules) (kept : List Entry) where
       )
 
   module _ (chain : List Upcaster) (b : Batch) where
-    cells-split : (cells : List Cell) (i : ℕ) (c : Cell) (s : Progress) (items : List Item) → i < length cells → c ≡ get_or cells i c → items ≡ cell_items chain b i c
-        → handled rules kept (left chain b i (drop i cells)) s ≡ and_on (handled rules kept items s) (λ t. handled rules kept (left chain b (i + 1) (drop (i + 1) cells)) t)
-    cells-split cells i c s items lt e is =
-        ap (λ xs. handled rules kept xs s) (next-cell chain b cells i c lt e ∙ ap (λ xs. xs ++ left chain b (i + 1) (drop (i + 1) cells)) (sym is))
-        ∙ handled-append rules kept items (left chain b (i + 1) (drop (i + 1) cells)) s
+    cells-split : (first : ℕ) (cells : List Cell) (i : ℕ) (c : Cell) (s : Progress) (items : List Item) → i < length cells → c ≡ get_or cells i c → items ≡ cell_items chain b (first + i) c
+        → handled rules kept (left chain b (first + i) (drop i cells)) s ≡ and_on (handled rules kept items s) (λ t. handled rules kept (left chain b (first + (i + 1)) (drop (i + 1) cells)) t)
+    cells-split first cells i c s items lt e is =
+        ap (λ xs. handled rules kept xs s) (next-cell chain b first cells i c lt e ∙ ap (λ xs. xs ++ left chain b (first + (i + 1)) (drop (i + 1) cells)) (sym is))
+        ∙ handled-append rules kept items (left chain b (first + (i + 1)) (drop (i + 1) cells)) s
 
-    pub cell-step : (cells : List Cell) (i : ℕ) (c : Cell) (s new : Progress) (a : Option Failure) (items : List Item) (o : Result Progress Failure) → i < length cells → c ≡ get_or cells i c → items ≡ cell_items chain b i c → length items ≤ 8
-        → a ≡ None → IsHandled (handled rules kept items s) a new → IsFitting rules kept s → handled rules kept (left chain b i (drop i cells)) s ≡ o → s.items ≤ 8 * i
-        → (handled rules kept (left chain b (i + 1) (drop (i + 1) cells)) new ≡ o) × IsFitting rules kept new × (new.items ≤ 8 * (i + 1))
-    cell-step cells i c s new a items o lt e is few none h fits same count =
+    pub cell-step : (first : ℕ) (cells : List Cell) (i : ℕ) (c : Cell) (s new : Progress) (a : Option Failure) (items : List Item) (o : Result Progress Failure) → i < length cells → c ≡ get_or cells i c → items ≡ cell_items chain b (first + i) c → length items ≤ 8
+        → a ≡ None → IsHandled (handled rules kept items s) a new → IsFitting rules kept s → handled rules kept (left chain b (first + i) (drop i cells)) s ≡ o → s.items ≤ 8 * i
+        → (handled rules kept (left chain b (first + (i + 1)) (drop (i + 1) cells)) new ≡ o) × IsFitting rules kept new × (new.items ≤ 8 * (i + 1))
+    cell-step first cells i c s new a items o lt e is few none h fits same count =
         let done : handled rules kept items s ≡ Ok new = was-done (handled rules kept items s) new (subst (λ a. IsHandled (handled rules kept items s) a new) none h) in
         let fit = fitting-items rules kept items s new fits done in (
-          sym (cells-split cells i c s items lt e is ∙ ap (λ o. and_on o (λ t. handled rules kept (left chain b (i + 1) (drop (i + 1) cells)) t)) done) ∙ same,
+          sym (cells-split first cells i c s items lt e is ∙ ap (λ o. and_on o (λ t. handled rules kept (left chain b (first + (i + 1)) (drop (i + 1) cells)) t)) done) ∙ same,
           fit.0,
           (let k : new.items ≡ s.items + length items = fit.1 in omega (arith, k, count, few)),
         )
 
-    pub cell-failed : (cells : List Cell) (i : ℕ) (c : Cell) (s new : Progress) (a : Option Failure) (f : Failure) (items : List Item) (o : Result Progress Failure) → i < length cells → c ≡ get_or cells i c → items ≡ cell_items chain b i c
-        → a ≡ Some f → IsHandled (handled rules kept items s) a new → handled rules kept (left chain b i (drop i cells)) s ≡ o → Err f ≡ o
-    cell-failed cells i c s new a f items o lt e is some h same =
-        sym (cells-split cells i c s items lt e is ∙ ap (λ o. and_on o (λ t. handled rules kept (left chain b (i + 1) (drop (i + 1) cells)) t)) (was-failed (handled rules kept items s) f new (subst (λ a. IsHandled (handled rules kept items s) a new) some h))) ∙ same
+    pub cell-failed : (first : ℕ) (cells : List Cell) (i : ℕ) (c : Cell) (s new : Progress) (a : Option Failure) (f : Failure) (items : List Item) (o : Result Progress Failure) → i < length cells → c ≡ get_or cells i c → items ≡ cell_items chain b (first + i) c
+        → a ≡ Some f → IsHandled (handled rules kept items s) a new → handled rules kept (left chain b (first + i) (drop i cells)) s ≡ o → Err f ≡ o
+    cell-failed first cells i c s new a f items o lt e is some h same =
+        sym (cells-split first cells i c s items lt e is ∙ ap (λ o. and_on o (λ t. handled rules kept (left chain b (first + (i + 1)) (drop (i + 1) cells)) t)) (was-failed (handled rules kept items s) f new (subst (λ a. IsHandled (handled rules kept items s) a new) some h))) ∙ same
 
 -- ---- the edits of one row more
 

@@ -3,6 +3,7 @@ pub mod Covering
 pub mod FetchKept
 pub mod Folding
 pub mod CommitKept
+pub mod Reached
 pub mod Bounds
 pub mod Fetches
 pub mod Handled

@@ -5,6 +5,7 @@ ghost use Rattle.ax_tokens.specs.Nodes.{token_of};
 ghost use Rattle.ax_tokens.specs.Tokens.{gaps_fit, max_gaps};
 ghost use Rattle.ax_step_work.specs.Working.{is_new, new_below, is_fetched, fetched_token};
 
+use crate::reach::{fetchable, low_of};
 use ax_segments::{Segment, hash_of};
 use ax_tokens::{Plain, Token};
 use ax_values::{Cell, NoMemory, Record};
@@ -59,12 +60,15 @@ fn bound_of(segment: Segment, token: &Token, cells: &[Cell], most: u32) -> u32
     ensures few { length (new_below segment (token_of token.now) (events cells.now) result) ≤ most }
     ensures above { (b : ℕ) → result < b → b ≤ length cells.now → most < length (new_below segment (token_of token.now) (events cells.now) b) }
 {
+    let first = (low_of(token) as usize).min(cells.len());
+    let rest = &cells[first..];
     let mut count = 0;
-    for (index, cell) in cells.iter().enumerate() {
+    for (offset, cell) in rest.iter().enumerate() {
+        let index = (first + offset) as u32;
         if let Cell::Event(event) = cell {
-            if is_new(segment, token, index as u32, event) {
+            if is_new(segment, token, index, event) {
                 if count == most {
-                    return index as u32;
+                    return index;
                 }
                 count += 1;
             }
@@ -98,10 +102,11 @@ pub(crate) fn count_fetched(segment: Segment, old: &Token, new: &Token, cells: &
     requires { length cells.now ≤ max_cells }
     ensures { result ≡ length (filter (is_fetched segment (token_of old.now) (token_of new.now)) (events cells.now)) }
 {
+    let (first, part) = fetchable(old, new, cells);
     let mut count = 0;
-    for (index, cell) in cells.iter().enumerate() {
+    for (offset, cell) in part.iter().enumerate() {
         if let Cell::Event(event) = cell {
-            if is_fetched(segment, old, new, index as u32, event) {
+            if is_fetched(segment, old, new, first + offset as u32, event) {
                 count += 1;
             }
         }

@@ -1,11 +1,10 @@
-ghost use Rattle.std.specs.Prelude.{◌≡◌, ◌<◌, ◌∷◌, [], ◌++◌, length, map, Some, None, Ok, Err, slice_get, IfOk, OnOk, IsTrue};
+ghost use Rattle.std.specs.Prelude.{◌≡◌, ◌<◌, ◌∷◌, [], ◌++◌, length, map, Some, None, Ok, Err, slice_get, IfOk, OnOk};
 ghost use Rattle.std.specs.List.{IsDistinct};
 ghost use Rattle.ax_values.specs.Words.{same_name};
 ghost use Rattle.ax_rules.specs.Why.{why_text};
 ghost use Rattle.ax_rules.specs.declared.why.Why.{Why};
 ghost use Rattle.ax_projections.specs.Table.{Entry};
 ghost use Rattle.ax_claims.specs.Rows.{row_at};
-ghost use Rattle.ax_state.specs.Setting.{is_projection, projection_at};
 ghost use Rattle.ax_state.specs.State.{desk_at};
 ghost use Rattle.ax_world.specs.Whole.{state_of, place_at};
 ghost use Rattle.ax_world.specs.Moves.{IsMove};
@@ -18,7 +17,7 @@ use crate::handling::{Changes, Failed, handle_batch};
 use ax_claims::{Refused, Rows};
 use ax_journal::Reply;
 use ax_projections::Table;
-use ax_rules::{Rules, Why};
+use ax_rules::Why;
 use ax_values::{Duplicate, Line, NoMemory};
 use ax_world::{Batch, Desk, Edit, Edits, Move, World};
 use std::alloc::Global;
@@ -90,26 +89,13 @@ fn commit_rows(
     let _ = world.clock();
     let chain = world.sheet().chain();
     let _ = chain.parts();
-    let rules = projection(world, batch.processor);
+    let rules = world.projection(batch.processor);
     let kept = world.table(batch.processor);
     let _ = kept.len();
     let cells = world.log().cells();
     match handle_batch(alloc, chain, rules, kept, cells, batch)? {
         Ok(changes) => install(alloc, world, actor, batch.processor, rows, changes),
         Err(failed) => not_applied(alloc, failed),
-    }
-}
-
-/// The rules of a projection processor.
-fn projection(world: &World, processor: u32) -> &Rules
-    requires { IsTrue (is_projection world.now.whole.setting processor) }
-    ensures { result.now ≡ projection_at world.now.whole.setting processor }
-{
-    let _ = world.clock();
-    let name = &world.processors().parts()[processor as usize].name;
-    match world.sheet().projection(name) {
-        Some(rules) => rules,
-        None => unreachable!(),
     }
 }
 

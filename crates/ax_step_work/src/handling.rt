@@ -9,6 +9,7 @@ ghost use Rattle.ax_step_work.specs.Working.{batch_items};
 ghost use Rattle.ax_step_work.specs.Handling.{nothing, first_of, handled_item, handled, IsHandled, IsFitting, cell_items};
 
 use crate::bound::is_fetched;
+use crate::reach::fetchable;
 use ax_projections::{Positioned, Table};
 use ax_rules::{Applied, Cause, Rules};
 use ax_upcast::Chain;
@@ -157,12 +158,13 @@ pub(crate) fn handle_batch(
     requires fits { IsFitting rules.now kept.now.entries nothing }
     ensures { IfOk result (λ made. made ≡ handled rules.now kept.now.entries (plain_items (batch_items chain.now batch.now (events cells.now))) nothing) }
 {
+    let (first, part) = fetchable(&batch.old, &batch.new, cells);
     let mut changes = Changes {
         rows: Table::new(alloc),
         items: 0,
     };
-    for (index, cell) in cells.iter().enumerate() {
-        let items = cell_items(alloc, chain, batch, index as u32, cell)?;
+    for (offset, cell) in part.iter().enumerate() {
+        let items = cell_items(alloc, chain, batch, first + offset as u32, cell)?;
         if let Some(failed) = handle_items(alloc, rules, kept, &mut changes, items.parts())? {
             return Ok(Err(failed));
         }

@@ -1,26 +1,17 @@
 ghost use Rattle.std.specs.Prelude.{◌≡◌, option_map};
 ghost use Rattle.std.specs.Option.{option_copied};
-ghost use Rattle.ax_state.specs.Holding.{is_held_at, held_fence, held_check};
+ghost use Rattle.ax_state.specs.Holding.{held_fence, held_check};
 
 use ax_claims::TokenRow;
 use ax_journal::Reply;
 use ax_segments::Segment;
 use ax_world::Held;
 
-fn is_held_at(held: &Held, processor: u32, segment: Segment) -> bool
-    ensures { result ≡ is_held_at processor segment held.now }
-{
-    held.processor == processor && held.segment == segment
-}
-
 /// The fence that is held for a segment of the processor.
 pub(crate) fn held_fence(held: &[Held], processor: u32, segment: Segment) -> Option<u64>
     ensures { result ≡ held_fence processor segment held.now }
 {
-    match held
-        .iter()
-        .find(|fence| is_held_at(fence, processor, segment))
-    {
+    match held.iter().find(|fence| fence.is_at(processor, segment)) {
         Some(found) => Some(found.fence),
         None => None,
     }

@@ -6,6 +6,7 @@ mod committing;
 mod fetching;
 mod handling;
 mod held;
+mod reach;
 mod steps;
 
 pub use steps::step;

@@ -1,0 +1,118 @@
+-- How far tokens reach, and the events of the cells between.
+use Rattle.std.proofs.Common.{◌≡◌, ℕ, zero, suc, min, ◌+◌, ◌-◌, ◌<◌, ◌≤◌, ◌==◌, ◌&&◌, ◌||◌, Bool, true, false, not, List, [], ◌∷◌, length, get_or, take, drop, filter, length-drop, if◌then◌else◌, refl, sym, ap, ◌∙◌, subst, arith, nat_lt}
+use borrow.Author.Tests.{ltb-true, eqb-true, lt-ltb}
+use Rattle.std.specs.List.{list_all}
+use Rattle.ax_values.specs.Words.{rises}
+use Rattle.ax_values.specs.declared.cell.Cell.{Cell}
+use Rattle.ax_values.specs.declared.record.Record.{Record}
+use Rattle.ax_log.specs.Log.{Stored, events_from, events}
+use Rattle.ax_segments.specs.Segments.{Segment, hash_of, matches}
+use Rattle.ax_tokens.specs.Plain.{Plain, contains, has, is_canonical_plain}
+use Rattle.ax_tokens.specs.Tokens.{Token, covers}
+use Rattle.ax_tokens.proofs.Sets.{and-left, above-first, gaps-below}
+use Rattle.ax_tokens.proofs.Gaps.{canonical-rises, canonical-below}
+use Rattle.ax_step_work.specs.Working.{is_new, new_below, is_fetched}
+use Rattle.ax_step_work.specs.Reach.{IsCoveredBelow, IsOpenFrom}
+
+nothing-then : (m : Bool) → (m && false) ≡ false
+nothing-then true = refl
+nothing-then false = refl
+
+-- ---- a plain part
+
+below-gap : (p : Plain) (g : ℕ) (gs : List ℕ) → is_canonical_plain p ≡ true → p.gaps ≡ g ∷ gs → (i : ℕ) → i < g → has p i ≡ true
+below-gap p g gs h e i lt =
+    ap (λ c. c && not (contains p.gaps i)) (lt-ltb i p.next (let a : suc g < p.next = room in omega arith))
+    ∙ ap (λ xs. not (contains xs i)) e ∙ ap not (lacks (g == i) refl (contains gs i) refl)
+  where
+    room : suc g < p.next
+    room = ltb-true (suc g) p.next (and-left _ _ (subst (λ xs. list_all (λ g. nat_lt (suc g) p.next) xs ≡ true) e (canonical-below p h)))
+
+    lacks : (b : Bool) → (g == i) ≡ b → (c : Bool) → contains gs i ≡ c → ((g == i) || contains gs i) ≡ false
+    lacks true k c l = absurd (let same : g ≡ i = eqb-true g i k in omega arith)
+    lacks false k true l = absurd (let over : g < i = above-first g gs (subst (λ xs. rises nat_lt xs ≡ true) e (canonical-rises p h)) i l in omega arith)
+    lacks false k false l = ap (λ b. b || contains gs i) k ∙ l
+
+pub below-first : (p : Plain) (gs : List ℕ) → is_canonical_plain p ≡ true → gs ≡ p.gaps → 1 ≤ length gs → (i : ℕ) → i < get_or gs 0 0 → has p i ≡ true
+below-first p [] h e some i lt = absurd (omega arith)
+below-first p (g ∷ gs) h e some i lt = below-gap p g gs h (sym e) i lt
+
+-- the number before `next` is in the set
+pub last-is : (p : Plain) (i : ℕ) → is_canonical_plain p ≡ true → p.next ≡ suc i → has p i ≡ true
+last-is p i h e = ap (λ c. c && not (contains p.gaps i)) (lt-ltb i p.next (omega arith)) ∙ ap not (none (contains p.gaps i) refl)
+  where
+    none : (b : Bool) → contains p.gaps i ≡ b → b ≡ false
+    none true c = absurd (let low : suc i < p.next = gaps-below p.next p.gaps i (canonical-below p h) c in omega arith)
+    none false c = refl
+
+-- ---- events that a test rejects by their index
+
+module _ (t : Stored → Bool) where
+  event-out : (k : ℕ) (r : Record) (es : List Stored) → t (record { index = k; record_of = r }) ≡ false → filter t (record { index = k; record_of = r } ∷ es) ≡ filter t es
+  event-out k r es h = ap (λ c. if c then record { index = k; record_of = r } ∷ filter t es else filter t es) h
+
+  -- where it rejects all below a bound, the first cells count for nothing
+  pub skip-front : (low n k : ℕ) (cells : List Cell) → ((e : Stored) → e.index < low → t e ≡ false) → k + n ≤ low → filter t (events_from (k + n) (drop n cells)) ≡ filter t (events_from k cells)
+  skip-front low zero k cells f le = let e : k + 0 ≡ k = omega arith in ap (λ j. filter t (events_from j cells)) e
+  skip-front low (suc n) k [] f le = refl
+  skip-front low (suc n) k (Cell.Reserved a s w at ∷ cells) f le = let e : k + suc n ≡ suc k + n = omega arith in ap (λ j. filter t (events_from j (drop n cells))) e ∙ skip-front low n (suc k) cells f (omega arith)
+  skip-front low (suc n) k (Cell.Void ∷ cells) f le = let e : k + suc n ≡ suc k + n = omega arith in ap (λ j. filter t (events_from j (drop n cells))) e ∙ skip-front low n (suc k) cells f (omega arith)
+  skip-front low (suc n) k (Cell.Event r ∷ cells) f le =
+      let e : k + suc n ≡ suc k + n = omega arith in
+      ap (λ j. filter t (events_from j (drop n cells))) e ∙ skip-front low n (suc k) cells f (omega arith) ∙ sym (event-out k r (events_from (suc k) cells) (f (record { index = k; record_of = r }) (omega arith)))
+
+  none-past : (high k : ℕ) (cells : List Cell) → ((e : Stored) → high ≤ e.index → t e ≡ false) → high ≤ k → filter t (events_from k cells) ≡ []
+  none-past high k [] f le = refl
+  none-past high k (Cell.Reserved a s w at ∷ cells) f le = none-past high (suc k) cells f (omega arith)
+  none-past high k (Cell.Void ∷ cells) f le = none-past high (suc k) cells f (omega arith)
+  none-past high k (Cell.Event r ∷ cells) f le = event-out k r (events_from (suc k) cells) (f (record { index = k; record_of = r }) (omega arith)) ∙ none-past high (suc k) cells f (omega arith)
+
+  -- where it rejects all from a bound on, so do the last cells
+  pub skip-back : (high n k : ℕ) (cells : List Cell) → ((e : Stored) → high ≤ e.index → t e ≡ false) → min high (k + length cells) ≤ k + n → filter t (events_from k (take n cells)) ≡ filter t (events_from k cells)
+  skip-back high zero k [] f le = refl
+  skip-back high zero k (c ∷ cells) f le = sym (none-past high k (c ∷ cells) f (omega arith))
+  skip-back high (suc n) k [] f le = refl
+  skip-back high (suc n) k (Cell.Reserved a s w at ∷ cells) f le = skip-back high n (suc k) cells f (omega arith)
+  skip-back high (suc n) k (Cell.Void ∷ cells) f le = skip-back high n (suc k) cells f (omega arith)
+  skip-back high (suc n) k (Cell.Event r ∷ cells) f le =
+      ap (λ es. if t (record { index = k; record_of = r }) then record { index = k; record_of = r } ∷ es else es) (skip-back high n (suc k) cells f (omega arith))
+
+  -- the cells between
+  pub between : (least past low high : ℕ) (cells : List Cell) → ((e : Stored) → e.index < least → t e ≡ false) → ((e : Stored) → past ≤ e.index → t e ≡ false) → high ≡ min past (length cells) → low ≡ min least high
+      → filter t (events_from low (take (high - low) (drop low cells))) ≡ filter t (events cells)
+  between least past low high cells f g h l =
+      let start : 0 + low ≡ low = omega arith in
+      skip-back past (high - low) low (drop low cells) g (omega (arith, length-drop low cells))
+      ∙ ap (λ k. filter t (events_from k (drop low cells))) (sym start) ∙ skip-front least low 0 cells f (omega arith)
+
+-- ---- what is new, and what is fetched
+
+nothing-after : (m n : Bool) → (m && (n && false)) ≡ false
+nothing-after true true = refl
+nothing-after true false = refl
+nothing-after false n = refl
+
+new-covered : (s : Segment) (t : Token) (n : ℕ) → IsCoveredBelow t n → (e : Stored) → e.index < n → is_new s t e ≡ false
+new-covered s t n h e lt = ap (λ c. matches s (hash_of e.record_of.aggregate) && not c) (h s.mask (hash_of e.record_of.aggregate) e.index lt) ∙ nothing-then (matches s (hash_of e.record_of.aggregate))
+
+fetched-covered : (s : Segment) (old new : Token) (n : ℕ) → IsCoveredBelow old n → (e : Stored) → e.index < n → is_fetched s old new e ≡ false
+fetched-covered s old new n h e lt =
+    ap (λ c. matches s (hash_of e.record_of.aggregate) && (covers new s.mask (hash_of e.record_of.aggregate) e.index && not c)) (h s.mask (hash_of e.record_of.aggregate) e.index lt)
+    ∙ nothing-after (matches s (hash_of e.record_of.aggregate)) (covers new s.mask (hash_of e.record_of.aggregate) e.index)
+
+fetched-open : (s : Segment) (old new : Token) (n : ℕ) → IsOpenFrom new n → (e : Stored) → n ≤ e.index → is_fetched s old new e ≡ false
+fetched-open s old new n h e le =
+    ap (λ c. matches s (hash_of e.record_of.aggregate) && (c && not (covers old s.mask (hash_of e.record_of.aggregate) e.index))) (h s.mask (hash_of e.record_of.aggregate) e.index le)
+    ∙ nothing-then (matches s (hash_of e.record_of.aggregate))
+
+-- what is fetched is fetched from the cells between
+pub fetched-between : (s : Segment) (old new : Token) (least past low high : ℕ) (cells : List Cell) → IsCoveredBelow old least → IsOpenFrom new past → high ≡ min past (length cells) → low ≡ min least high
+    → filter (is_fetched s old new) (events_from low (take (high - low) (drop low cells))) ≡ filter (is_fetched s old new) (events cells)
+fetched-between s old new least past low high cells f g = between (is_fetched s old new) least past low high cells (fetched-covered s old new least f) (fetched-open s old new past g)
+
+-- no new event stands before the first cell that can have one
+pub new-from : (s : Segment) (t : Token) (least low b : ℕ) (cells : List Cell) → IsCoveredBelow t least → low ≤ least → new_below s t (events_from low (drop low cells)) b ≡ new_below s t (events cells) b
+new-from s t least low b cells h le =
+    let start : 0 + low ≡ low = omega arith in
+    ap (λ k. new_below s t (events_from k (drop low cells)) b) (sym start)
+    ∙ skip-front (λ e. is_new s t e && nat_lt e.index b) least low 0 cells (λ e lt. ap (λ c. c && nat_lt e.index b) (new-covered s t least h e lt)) (omega arith)

@@ -1,0 +1,18 @@
+-- How far a token reaches: below which index it covers all, and from which on it covers none.
+use Rattle.std.specs.Prelude.{◌≡◌, ℕ, ◌<◌, ◌≤◌, Bool, true, false, ◌||◌}
+use Rattle.ax_tokens.specs.Plain.{has}
+use Rattle.ax_tokens.specs.Tokens.{Token, plain, merged, replay, covers}
+
+-- each index below n is covered, for every hash
+abbrev pub IsCoveredBelow : Token → ℕ → Type 0
+IsCoveredBelow t n = (mask hash index : ℕ) → index < n → covers t mask hash index ≡ true
+
+-- no index from n on is covered, for any hash
+abbrev pub IsOpenFrom : Token → ℕ → Type 0
+IsOpenFrom t n = (mask hash index : ℕ) → n ≤ index → covers t mask hash index ≡ false
+
+-- whether some half has covered the index
+abbrev pub some_has : Token → ℕ → Bool
+some_has (plain p) i = has p i
+some_has (merged l u) i = some_has l i || some_has u i
+some_has (replay r c) i = has c i
