@@ -21,7 +21,7 @@ use Rattle.ax_state.specs.WellFormed.{IsPlace, IsWellFormed}
 use Rattle.ax_state.proofs.Lists.{AllFrom-get}
 use Rattle.ax_state.proofs.Prefixes.{same-row, filter-items}
 use Rattle.ax_world.proofs.Shelves.{get-at}
-use Rattle.ax_report.proofs.Shown.{projection-within}
+use Rattle.ax_world.proofs.Projections.{projection-within}
 use Rattle.ax_step_work.proofs.Covering.{hash-small, rows-of}
 use Rattle.ax_machine.specs.Promises.{IsFoldOfPrefix, AreRight}
 use Rattle.ax_values.specs.declared.cell.Cell.{Cell}

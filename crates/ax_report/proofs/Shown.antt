@@ -1,11 +1,10 @@
 -- The rows that a world keeps, and those of a rebuild, are the rows that the definitions show.
-use Rattle.std.proofs.Common.{◌≡◌, ℕ, zero, suc, ◌+◌, ◌<◌, Bool, true, false, not, ◌||◌, List, [], ◌∷◌, ◌++◌, map, length, filter, flat_map, take, drop, Option, Some, None, Result, Ok, Err, OnOk, IsTrue, is_some, nat_lt, slice_get, get_or, if◌then◌else◌, refl, sym, ap, ◌∙◌, subst, arith, append_assoc}
-use Rattle.std.specs.List.{list_any, list_all}
+use Rattle.std.proofs.Common.{◌≡◌, ℕ, zero, suc, ◌+◌, ◌<◌, Bool, true, false, not, ◌||◌, List, [], ◌∷◌, ◌++◌, map, length, filter, flat_map, take, drop, Some, None, Result, Ok, Err, OnOk, IsTrue, nat_lt, slice_get, if◌then◌else◌, refl, sym, ap, ◌∙◌, subst, arith, append_assoc}
+use Rattle.std.specs.List.{list_any}
 use Rattle.std.proofs.lemmas.List.{append-nil}
 use Rattle.std.proofs.lemmas.Bool.Decides.{nat_tests}
 use Rattle.ax_values.specs.Grammar.{Name, Line}
 use Rattle.ax_values.specs.Words.{same_name}
-use Rattle.ax_values.proofs.Options.{both}
 use Rattle.ax_log.specs.Log.{Stored, events, stream_in, option_is}
 use Rattle.ax_rules.specs.Rules.{Rules, start_row, row_or}
 use Rattle.ax_projections.specs.Items.{Placed, placed_items, all_items, items_of, aggregate_of}
@@ -14,7 +13,7 @@ use Rattle.ax_projections.specs.Rebuild.{rebuilt, first_names, folded}
 use Rattle.ax_projections.proofs.NameLaws.{name-sym, any-firsts, found, missing}
 use Rattle.ax_projections.proofs.RebuildLaws.{own, is_own, items-own}
 use Rattle.ax_state.specs.Every.{option_or}
-use Rattle.ax_state.specs.Setting.{Setting, IsSetting, is_projection, processor_at, projection_at, no_processor}
+use Rattle.ax_state.specs.Setting.{is_projection, processor_at, projection_at, no_processor}
 use Rattle.ax_state.specs.State.{State, Shelf, empty_shelf, shelf_at}
 use Rattle.ax_state.specs.Positions.{rows_of, shown_at, rebuilt_at, rebuilt_rows, position_in, covered_in}
 use Rattle.ax_state.specs.Portions.{portions, covered_events}
@@ -22,11 +21,10 @@ use Rattle.ax_state.specs.WellFormed.{IsPlace, CoverPrefix}
 use Rattle.ax_state.specs.Answer.{reported}
 use Rattle.ax_state.proofs.Lists.{AllFrom-get}
 use Rattle.ax_state.proofs.Prefixes.{same-position, same-row}
-use Rattle.ax_sheet.specs.Sheet.{Sheet, projection_named, saga_named}
-use Rattle.ax_sheet.specs.Declarations.{is_of_sheet}
 use Rattle.ax_world.specs.Whole.{Whole, empty_place, state_of, place_at}
 use Rattle.ax_world.specs.Fits.{IsWorld, IsTable, folded_row, row_if}
 use Rattle.ax_world.specs.Moves.{IsMove}
+use Rattle.ax_world.proofs.Projections.{projection-within}
 use Rattle.ax_world.proofs.Shelves.{get-at, shelf-place, place-declared}
 use Rattle.ax_world.specs.declared.edit.Move.{Move}
 use Rattle.ax_report.specs.Reports.{listed, line_of, row_line, processor_line, rows_report, rebuilt_lines, rebuild_from, unless_saga, AreNames, AddsRows}
@@ -36,39 +34,7 @@ use Rattle.ax_upcast.specs.declared.upcaster.Upcaster.{Upcaster}
 use Rattle.ax_sheet.specs.declared.parts.Processor.{Processor}
 use Rattle.ax_journal.specs.declared.reply.Reply.{Reply}
 
--- ---- rules of a processor
-
-rules-among : (sheet : Sheet) (qs : List Processor) (p : ℕ) → list_all (is_of_sheet sheet) qs ≡ true → option_is (λ q. not q.saga) (slice_get qs p) ≡ true → is_some (projection_named sheet (option_or no_processor (slice_get qs p)).name) ≡ true
-rules-among sheet [] p h k = absurd (cc)
-rules-among sheet (q ∷ qs) zero h k = at q.saga k (both (is_of_sheet sheet q) (list_all (is_of_sheet sheet) qs) h).0
-  where
-    at : (b : Bool) → not b ≡ true → (if b then is_some (saga_named sheet q.name) else is_some (projection_named sheet q.name)) ≡ true → is_some (projection_named sheet q.name) ≡ true
-    at true k h = absurd (cc)
-    at false k h = h
-rules-among sheet (q ∷ qs) (suc p) h k = rules-among sheet qs p (both (is_of_sheet sheet q) (list_all (is_of_sheet sheet) qs) h).1 k
-
--- each projection processor has its rules
-pub has-rules : (s : Setting) (p : ℕ) → IsSetting s → IsTrue (is_projection s p) → is_some (projection_named s.sheet (processor_at s p).name) ≡ true
-has-rules s p h k = rules-among s.sheet s.processors p h.processors.of_sheet k
-
-index-is : (qs : List Processor) (p : ℕ) (q : Processor) → p < length qs → q ≡ get_or qs p q → option_or no_processor (slice_get qs p) ≡ q
-index-is [] p q h e = absurd (omega arith)
-index-is (x ∷ xs) zero q h e = sym e
-index-is (x ∷ xs) (suc p) q h e = index-is xs p q (omega arith) e
-
-pub projection-within : (qs : List Processor) (p : ℕ) → option_is (λ q. not q.saga) (slice_get qs p) ≡ true → p < length qs
-projection-within [] p h = absurd (cc)
-projection-within (x ∷ xs) zero h = omega arith
-projection-within (x ∷ xs) (suc p) h = let ih : p < length xs = projection-within xs p h in omega arith
-
--- the processor that is read
-pub read-processor : (s : Setting) (p : ℕ) (q : Processor) (read : List Processor) → p < length s.processors → q ≡ get_or read p q → read ≡ s.processors → processor_at s p ≡ q
-read-processor s p q read h e same = index-is s.processors p q h (e ∙ ap (λ qs. get_or qs p q) same)
-
-pub named-rules : (s : Setting) (p : ℕ) (q : Processor) (read : List Processor) (sheet : Sheet) (o : Option Rules) → IsTrue (is_projection s p) → q ≡ get_or read p q → read ≡ s.processors → sheet ≡ s.sheet → o ≡ projection_named sheet q.name
-    → projection_named s.sheet (processor_at s p).name ≡ o
-named-rules s p q read sheet o h e same is k =
-    ap (λ (x : Processor). projection_named s.sheet x.name) (read-processor s p q read (projection-within s.processors p h) e same) ∙ ap (λ sh. projection_named sh q.name) (sym is) ∙ sym k
+-- ---- a processor of a projection
 
 -- a processor that is not of a saga is one of a projection
 pub not-saga : (qs : List Processor) (p : ℕ) → p < length qs → (option_or no_processor (slice_get qs p)).saga ≡ false → option_is (λ q. not q.saga) (slice_get qs p) ≡ true

@@ -5,7 +5,7 @@ ghost use Rattle.ax_world.specs.Whole.{state_of};
 ghost use Rattle.ax_report.specs.Reports.{rebuilt_lines, rebuild_lines, rebuild_text, unless_saga};
 
 use crate::line::processor_line;
-use crate::rows::{add_rows, rules_of};
+use crate::rows::add_rows;
 use ax_journal::Lines;
 use ax_projections::rebuild;
 use ax_values::{Line, NoMemory, whole_or_none};
@@ -61,7 +61,7 @@ fn add_rebuilt(
         return Ok(());
     }
     lines.push(processor_line(alloc, declared)?)?;
-    let rules = rules_of(world, processor);
+    let rules = world.projection(processor);
     let table = rebuild(alloc, world.log().cells(), world.sheet().chain(), rules)?;
     add_rows(alloc, rules.fields(), &table, lines)
 }

@@ -1,29 +1,14 @@
-ghost use Rattle.std.specs.Prelude.{◌≡◌, ◌++◌, map, IsTrue, OnOk};
+ghost use Rattle.std.specs.Prelude.{◌≡◌, ◌++◌, map, OnOk};
 ghost use Rattle.ax_projections.specs.Table.{look_up};
-ghost use Rattle.ax_state.specs.Setting.{is_projection, projection_at};
 ghost use Rattle.ax_report.specs.Reports.{shown_of, listed, line_of, AddsRows};
 
 use crate::line::row_line;
 use crate::names::sorted_names;
 use ax_journal::Lines;
 use ax_projections::Table;
-use ax_rules::{Initial, Rules};
+use ax_rules::Initial;
 use ax_values::{Name, NoMemory};
-use ax_world::World;
 use std::alloc::Global;
-
-/// The rules of a projection processor.
-pub(crate) fn rules_of(world: &World, processor: u32) -> &Rules
-    requires { IsTrue (is_projection world.now.whole.setting processor) }
-    ensures { result.now ≡ projection_at world.now.whole.setting processor }
-{
-    let _ = world.clock();
-    let declared = &world.processors().parts()[processor as usize];
-    let Some(rules) = world.sheet().projection(&declared.name) else {
-        unreachable!()
-    };
-    rules
-}
 
 /// Adds the line of the name's row, where the table has one.
 fn add_row(

@@ -5,7 +5,7 @@ ghost use Rattle.ax_world.specs.Whole.{state_of};
 ghost use Rattle.ax_world.specs.Moves.{IsMove};
 ghost use Rattle.ax_report.specs.Reports.{IsReport, IsDeclared, rows_report, step};
 
-use crate::rows::{add_rows, rules_of};
+use crate::rows::add_rows;
 use ax_journal::{Lines, Order, Reply};
 use ax_values::NoMemory;
 use ax_world::{Edits, Move, World};
@@ -38,7 +38,7 @@ fn show_rows(alloc: Global, world: &World, processor: u32) -> Result<Move, NoMem
     ensures { IfOk result (IsMove world.now.whole (reported (state_of world.now.whole) (rows_report (state_of world.now.whole) processor))) }
 {
     let _ = world.clock();
-    let rules = rules_of(world, processor);
+    let rules = world.projection(processor);
     let mut report = Lines::new(alloc);
     add_rows(alloc, rules.fields(), world.table(processor), &mut report)?;
     let count = report.parts().len() as u64;

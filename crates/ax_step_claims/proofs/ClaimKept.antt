@@ -18,7 +18,8 @@ use Rattle.ax_state.specs.Answer.{answer}
 use Rattle.ax_state.specs.WellFormed.{IsWellFormed, IsSeat, IsPlace, IsFolded, AreParts, AreTokens, IsShelfBy, IsOwnedRight, IsBatchIn, IsBatchAt, IsBatchRow, IsFencedShelf, OwnsRow, OwnsAs, HoldsCells, fence_count, holds_cell, is_gapless}
 use Rattle.ax_state.proofs.Lists.{All-map, All-set, All-at, All-get, All-put, All-filter, All-append, AllFrom-map, AllFrom-set, AllFrom-at, AllFrom-get, AllFrom-of, AllFrom-zip, AllFrom-each, count-set_same, IfSome-map}
 use Rattle.ax_state.proofs.Puts.{found-row, portions-put, fence_count-put, fence_count-next, fenced-later}
-use Rattle.ax_step_claims.specs.Claiming.{claim, claimed, claimed_reply, granted, is_held_at, let_go, hold_fence}
+use Rattle.ax_state.specs.Holding.{is_held_at}
+use Rattle.ax_step_claims.specs.Claiming.{claim, claimed, claimed_reply, granted, let_go, hold_fence}
 
 -- the row gets a fresh fence and an owner, and the desk the fence
 pub kept-granted : (m : State) (actor p : ℕ) (s : Segment) (shelf : Shelf) (r : TokenRow) → slice_get m.shelves p ≡ Some shelf → row_at s shelf.rows ≡ Some r → IsWellFormed m

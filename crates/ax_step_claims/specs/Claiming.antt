@@ -1,11 +1,12 @@
 -- Steps on token rows: claim.
-use Rattle.std.specs.Prelude.{ℕ, suc, ◌<◌, ◌==◌, Bool, not, ◌&&◌, List, [], ◌∷◌, ◌++◌, length, filter, Option, Some, None, IsTrue, is_some, slice_get, if◌then◌else◌}
+use Rattle.std.specs.Prelude.{ℕ, suc, ◌<◌, not, List, [], ◌∷◌, ◌++◌, length, filter, Option, Some, None, IsTrue, is_some, slice_get, if◌then◌else◌}
 use Rattle.ax_values.specs.Grammar.{Name}
-use Rattle.ax_segments.specs.Segments.{Segment, same_segment}
+use Rattle.ax_segments.specs.Segments.{Segment}
 use Rattle.ax_claims.specs.Rows.{TokenRow, row_at, put_row}
 use Rattle.ax_claims.specs.Changes.{is_claimed, owned}
 use Rattle.ax_state.specs.Setting.{processor_number}
 use Rattle.ax_state.specs.State.{State, Held, desk_at, shelf_at, with_desk, with_rows, with_fence, actor_name}
+use Rattle.ax_state.specs.Holding.{is_held_at}
 use Rattle.ax_state.specs.Answer.{Answer, answer}
 use Rattle.ax_claims.specs.declared.refused.Refused.{Refused}
 use Rattle.ax_journal.specs.declared.order.Order.{Order}
@@ -17,9 +18,6 @@ claimed_reply r None = Reply.Claimed [] r.since
 claimed_reply r (Some owner) = Reply.Claimed owner r.since
 
 -- ---- fences on a desk
-
-abbrev pub is_held_at : ℕ → Segment → Held → Bool
-is_held_at p s h = (h.processor == p) && same_segment h.segment s
 
 abbrev pub let_go : ℕ → Segment → List Held → List Held
 let_go p s hs = filter (λ h. not (is_held_at p s h)) hs
