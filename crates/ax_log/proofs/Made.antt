@@ -1,10 +1,10 @@
 -- The cells after puts one after another.
-use Rattle.std.specs.Prelude.{◌≡◌, ℕ, zero, suc, ◌≤◌, List, [], ◌∷◌, ◌++◌, length}
+use Rattle.std.specs.Prelude.{◌≡◌, ℕ, zero, suc, ◌-◌, ◌≤◌, ◌==◌, Bool, true, false, List, [], ◌∷◌, ◌++◌, length, if◌then◌else◌}
 use Rattle.std.proofs.Common.{refl, ap, sym, ◌∙◌, arith}
 use Rattle.ax_values.specs.declared.cell.Cell.{Cell}
 use Rattle.ax_log.specs.Log.{put_at, put_cells}
 use Rattle.ax_log.specs.Order.{IsOrdered}
-use Rattle.ax_log.specs.Puts.{CanPutAll, put_all, puts_at}
+use Rattle.ax_log.specs.Puts.{LogView, HasRoom, CanPutAll, put_all, puts_at, after_put}
 use Rattle.ax_log.specs.declared.put.CellPut.{CellPut}
 use Rattle.ax_log.proofs.Puts.{put, put_at-put, grown-put}
 
@@ -44,3 +44,11 @@ CanPutAll-append (p ∷ ps) qs cells h j = (h.0, CanPutAll-append ps qs (put_at 
 pub IsOrdered-put_all : (ps : List CellPut) (cells : List Cell) → CanPutAll cells ps → IsOrdered cells → IsOrdered (put_all ps cells)
 IsOrdered-put_all [] cells h o = o
 IsOrdered-put_all (p ∷ ps) cells h o = IsOrdered-put_all ps (put_at cells p.index p.cell) h.1 h.0.after
+
+-- once the first is made, there is room for the others
+pub room-behind : (log : LogView) (p : CellPut) (ps : List CellPut) → HasRoom log.room (p ∷ ps) → HasRoom (after_put log p).room ps
+room-behind log p ps h = record { cells = at (p.index == length log.cells) h.cells; names = h.names.1 }
+  where
+    at : (b : Bool) → suc (length ps) ≤ log.room.cells → length ps ≤ (if b then log.room.cells - 1 else log.room.cells)
+    at true le = omega arith
+    at false le = omega arith

@@ -76,7 +76,7 @@ impl Log {
             return 0;
         }
         let Cell::Event(event) = &self.cells[last - 1] else {
-            return 0;
+            unreachable!()
         };
         event.seq + 1
     }

@@ -113,7 +113,7 @@ impl Streams {
             return 0;
         };
         let Some(last) = self.last.get_mut(&event.aggregate) else {
-            return 0;
+            unreachable!()
         };
         let before = *last;
         *last = index + 1;

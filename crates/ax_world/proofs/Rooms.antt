@@ -1,10 +1,10 @@
 -- Room that is made for edits stays until they are made.
-use Rattle.std.proofs.Common.{◌≡◌, ℕ, zero, suc, ◌+◌, ◌-◌, ◌<◌, ◌≤◌, ◌==◌, if◌then◌else◌, Bool, true, false, List, [], ◌∷◌, map, take, length, Result, Ok, Err, OnOk, get_or, nat_lt, refl, sym, ap, ◌∙◌, subst, arith}
+use Rattle.std.proofs.Common.{◌≡◌, ℕ, zero, suc, ◌+◌, ◌<◌, ◌≤◌, Bool, true, false, List, [], ◌∷◌, map, take, length, Result, Ok, Err, OnOk, get_or, nat_lt, refl, sym, ap, ◌∙◌, subst, arith}
 use Rattle.std.specs.List.{AllByRecursion}
 use Rattle.std.proofs.lemmas.Bool.Decides.{nat_tests}
 use Rattle.std.proofs.lemmas.List.{length-set, length-map}
 use Rattle.ax_values.specs.declared.cell.Cell.{Cell}
-use Rattle.ax_log.specs.Puts.{Room as LogRoom, LogView, HasRoom as HasLogRoom, IsKept, IsKnown, after_put}
+use Rattle.ax_log.specs.Puts.{Room as LogRoom, IsKept, IsKnown}
 use Rattle.ax_log.specs.declared.put.CellPut.{CellPut}
 use Rattle.ax_state.specs.Every.{count, one}
 use Rattle.ax_world.specs.Whole.{Whole, PlaceView, Room, room_in, rows_room, place_at}
@@ -42,13 +42,6 @@ pub single-left : (e : Edit) (es : List Edit) → count is_cells (e ∷ es) ≤ 
 single-left e es h = omega arith
 
 -- ---- cells are put
-
-pub room-behind : (log : LogView) (p : CellPut) (ps : List CellPut) → HasLogRoom log.room (p ∷ ps) → HasLogRoom (after_put log p).room ps
-room-behind log p ps h = record { cells = at (p.index == length log.cells) h.cells; names = h.names.1 }
-  where
-    at : (b : Bool) → suc (length ps) ≤ log.room.cells → length ps ≤ (if b then log.room.cells - 1 else log.room.cells)
-    at true le = omega arith
-    at false le = omega arith
 
 kept-cell : (old new : LogRoom) (x : Cell) → IsKept old new → IsKnown old.names x → IsKnown new.names x
 kept-cell old new (Cell.Reserved a s w t) k h = tt

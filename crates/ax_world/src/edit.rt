@@ -49,11 +49,7 @@ impl Move {
     pub fn without_edits(alloc: Global, reply: Reply) -> Move
         ensures { result ≡ record { edits = []; reply = reply; report = [] } }
     {
-        Move {
-            edits: Edits::new(alloc),
-            reply,
-            report: Lines::new(alloc),
-        }
+        Move::of(alloc, Edits::new(alloc), reply)
     }
 
     /// Makes these changes, without a report.
