@@ -66,9 +66,15 @@ fn append_one(
 }
 
 /// Puts one event at the end.
-fn append_end(alloc: Global, log: &mut Log, aggregate: &Name) -> Result<(), LogFault> {
+fn append_end(
+    rt: &impl Abort,
+    alloc: Global,
+    log: &mut Log,
+    aggregate: &[u8],
+) -> Result<(), LogFault> {
+    let aggregate = name(rt, alloc, aggregate)?;
     let first = log.cells().len() as u32;
-    let records = one_event(alloc, aggregate, log.length_of(aggregate))?;
+    let records = one_event(alloc, &aggregate, log.length_of(&aggregate))?;
     let puts = log.append(alloc, first, records)?;
     make(log, puts)?;
     Ok(())
@@ -94,13 +100,30 @@ fn make_one(log: &mut Log, change: CellPut) -> Result<(), NoMemory>
     Ok(())
 }
 
+/// What a reservation of so many cells answers.
+fn reserve(
+    rt: &impl Abort,
+    alloc: Global,
+    log: &Log,
+    aggregate: &[u8],
+    actor: &[u8],
+    count: u32,
+) -> Result<CellPuts, LogFault>
+    ensures { IfOk result (CanPutAll log.now.cells) }
+{
+    let aggregate = name(rt, alloc, aggregate)?;
+    let actor = name(rt, alloc, actor)?;
+    log.reserve(alloc, &aggregate, &actor, count, 0)
+}
+
 fn reserve_one(
+    rt: &impl Abort,
     alloc: Global,
     log: &mut Log,
-    aggregate: &Name,
-    actor: &Name,
+    aggregate: &[u8],
+    actor: &[u8],
 ) -> Result<(), LogFault> {
-    let puts = log.reserve(alloc, aggregate, actor, 1, 0)?;
+    let puts = reserve(rt, alloc, log, aggregate, actor, 1)?;
     make(log, puts)?;
     Ok(())
 }
@@ -110,74 +133,117 @@ fn append_kept(
     alloc: Global,
     log: &mut Log,
     first: u32,
-    aggregate: &Name,
+    aggregate: &[u8],
 ) -> Result<(), LogFault> {
-    let puts = append_one(rt, alloc, log, first, aggregate)?;
+    let aggregate = name(rt, alloc, aggregate)?;
+    let puts = append_one(rt, alloc, log, first, &aggregate)?;
     make(log, puts)?;
     Ok(())
+}
+
+/// What refuses an append of one event of `card-1`.
+fn append_fault(
+    rt: &impl Abort,
+    alloc: Global,
+    log: &Log,
+    first: u32,
+) -> Result<Option<LogFault>, NoMemory> {
+    let aggregate = name(rt, alloc, b"card-1")?;
+    match append_one(rt, alloc, log, first, &aggregate) {
+        Ok(_) => Ok(None),
+        Err(fault) => Ok(Some(fault)),
+    }
+}
+
+/// Whether the aggregate's events are those at the indexes.
+fn stands_at(
+    rt: &impl Abort,
+    alloc: Global,
+    log: &Log,
+    aggregate: &[u8],
+    indexes: &[u32],
+) -> Result<bool, NoMemory> {
+    let aggregate = name(rt, alloc, aggregate)?;
+    let stream = log.stream(alloc, &aggregate)?;
+    Ok(log.length_of(&aggregate) as usize == indexes.len() && stream.as_slice() == indexes)
+}
+
+/// A reserved cell of `card-1`, and behind it an event of `card-2`.
+fn one_reserved(rt: &impl Abort, alloc: Global) -> Result<Log, LogFault> {
+    let mut log = Log::new(alloc);
+    reserve_one(rt, alloc, &mut log, b"card-1", b"c1")?;
+    reserve_one(rt, alloc, &mut log, b"card-2", b"c1")?;
+    append_kept(rt, alloc, &mut log, 1, b"card-2")?;
+    Ok(log)
 }
 
 #[test]
 fn reserved_cell_is_a_gap(rt: HostRuntime) -> Result<(), Fail> {
     let alloc = rt.alloc();
-    let one = name(&rt, alloc, b"card-1")?;
-    let two = name(&rt, alloc, b"card-2")?;
-    let actor = name(&rt, alloc, b"c1")?;
-    let mut log = Log::new(alloc);
-    reserve_one(alloc, &mut log, &one, &actor)?;
-    reserve_one(alloc, &mut log, &two, &actor)?;
-    append_kept(&rt, alloc, &mut log, 1, &two)?;
-    assert_eq!(rt; log.length_of(&one), 0);
-    assert_eq!(rt; log.length_of(&two), 1);
-    append_kept(&rt, alloc, &mut log, 0, &one)?;
-    append_end(alloc, &mut log, &one)?;
-    assert_eq!(rt; log.length_of(&one), 2);
-    assert_eq!(rt; log.stream(alloc, &one)?.as_slice(), [0, 2].as_slice());
+    let mut log = one_reserved(&rt, alloc)?;
+    assert!(rt; stands_at(&rt, alloc, &log, b"card-1", &[])?);
+    assert!(rt; stands_at(&rt, alloc, &log, b"card-2", &[1])?);
+    append_kept(&rt, alloc, &mut log, 0, b"card-1")?;
+    append_end(&rt, alloc, &mut log, b"card-1")?;
+    assert!(rt; stands_at(&rt, alloc, &log, b"card-1", &[0, 2])?);
     assert!(rt; log.scan(3).is_none());
     Ok(())
+}
+
+/// One event of `card-1`, and behind it a reserved cell of each of two actors.
+fn two_reserved(rt: &impl Abort, alloc: Global) -> Result<Log, LogFault> {
+    let mut log = Log::new(alloc);
+    reserve_one(rt, alloc, &mut log, b"card-1", b"c1")?;
+    append_kept(rt, alloc, &mut log, 0, b"card-1")?;
+    reserve_one(rt, alloc, &mut log, b"card-1", b"c1")?;
+    reserve_one(rt, alloc, &mut log, b"card-1", b"c2")?;
+    Ok(log)
 }
 
 #[test]
 fn second_append_conflicts(rt: HostRuntime) -> Result<(), Fail> {
     let alloc = rt.alloc();
-    let card = name(&rt, alloc, b"card-1")?;
-    let actor = name(&rt, alloc, b"c1")?;
-    let other = name(&rt, alloc, b"c2")?;
-    let mut log = Log::new(alloc);
-    reserve_one(alloc, &mut log, &card, &actor)?;
-    append_kept(&rt, alloc, &mut log, 0, &card)?;
-    reserve_one(alloc, &mut log, &card, &actor)?;
-    reserve_one(alloc, &mut log, &card, &other)?;
-    append_kept(&rt, alloc, &mut log, 1, &card)?;
-    let refused = append_one(&rt, alloc, &log, 2, &card);
+    let mut log = two_reserved(&rt, alloc)?;
+    append_kept(&rt, alloc, &mut log, 1, b"card-1")?;
+    let refused = append_fault(&rt, alloc, &log, 2)?;
     assert!(rt;
         matches!(
             &refused,
-            Err(LogFault::Conflict {
+            Some(LogFault::Conflict {
                 expected: 1,
                 found: 2
             })
         )
     );
-    assert_eq!(rt; log.stream(alloc, &card)?.as_slice(), [0, 1].as_slice());
+    assert!(rt; stands_at(&rt, alloc, &log, b"card-1", &[0, 1])?);
     Ok(())
+}
+
+#[test]
+fn cells_past_the_limit(rt: HostRuntime) -> Result<(), Fail> {
+    let alloc = rt.alloc();
+    let full = reserve(&rt, alloc, &Log::new(alloc), b"card-1", b"c1", 200_001);
+    assert!(rt; matches!(&full, Err(LogFault::LogFull)));
+    Ok(())
+}
+
+/// One cell that is reserved at the time 0, and made void where it may be at `moment`.
+fn voided_at(rt: &impl Abort, alloc: Global, moment: u64) -> Result<Log, LogFault> {
+    let mut log = Log::new(alloc);
+    reserve_one(rt, alloc, &mut log, b"card-1", b"c1")?;
+    let put = log.void(0, moment)?;
+    log.put(put);
+    Ok(log)
 }
 
 #[test]
 fn void_after_sixty_seconds(rt: HostRuntime) -> Result<(), Fail> {
     let alloc = rt.alloc();
-    let card = name(&rt, alloc, b"card-1")?;
-    let actor = name(&rt, alloc, b"c1")?;
-    let mut log = Log::new(alloc);
-    let full = log.reserve(alloc, &card, &actor, 200_001, 0);
-    assert!(rt; matches!(&full, Err(LogFault::LogFull)));
-    reserve_one(alloc, &mut log, &card, &actor)?;
-    let young = log.void(0, 60_000);
+    let young = voided_at(&rt, alloc, 60_000);
     assert!(rt; matches!(&young, Err(LogFault::Young { since: 0 })));
-    let put = log.void(0, 60_001)?;
-    log.put(put);
-    let refused = append_one(&rt, alloc, &log, 0, &card);
-    assert!(rt; matches!(&refused, Err(LogFault::Voided { index: 0 })));
+    let log = voided_at(&rt, alloc, 60_001)?;
+    let refused = append_fault(&rt, alloc, &log, 0)?;
+    assert!(rt; matches!(&refused, Some(LogFault::Voided { index: 0 })));
     let again = log.void(0, 60_001);
     assert!(rt; matches!(&again, Err(LogFault::NotReserved)));
     Ok(())

@@ -54,29 +54,28 @@ fn bought(alloc: Global) -> Result<Record, Fail> {
     })
 }
 
+fn template(alloc: Global, kind: &[u8], fields: Vec<GivenField>) -> Result<Template, Fail> {
+    Ok(Template {
+        kind: name(alloc, kind)?,
+        revision: 1,
+        fields: GivenFields::of(fields),
+    })
+}
+
+/// `issued`, and `redeemed` with the fee as its amount.
+fn parts(alloc: Global) -> Result<Templates, Fail> {
+    let amount = vec![in alloc; copy_of(alloc, b"amount", b"amount")?]?;
+    let mut fee = vec![in alloc; copy_of(alloc, b"amount", b"fee")?]?;
+    fee.push(copy_of(alloc, b"to", b"to")?)?;
+    let mut parts = vec![in alloc; template(alloc, b"issued", amount)?]?;
+    parts.push(template(alloc, b"redeemed", fee)?)?;
+    Ok(Templates::of(parts))
+}
+
 #[test]
 fn a_purchase_becomes_two_items(rt: HostRuntime) -> Result<(), Fail> {
     let alloc = rt.alloc();
-    let issued = Template {
-        kind: name(alloc, b"issued")?,
-        revision: 1,
-        fields: GivenFields::of(vec![in alloc; copy_of(alloc, b"amount", b"amount")?]?),
-    };
-    let redeemed = Template {
-        kind: name(alloc, b"redeemed")?,
-        revision: 1,
-        fields: GivenFields::of(vec![in alloc;
-            copy_of(alloc, b"amount", b"fee")?,
-            copy_of(alloc, b"to", b"to")?,
-        ]?),
-    };
-    let rules = vec![in alloc;
-        rule(
-            alloc,
-            b"bought",
-            Act::Split(Templates::of(vec![in alloc; issued, redeemed]?))
-        )?,
-    ]?;
+    let rules = vec![in alloc; rule(alloc, b"bought", Act::Split(parts(alloc)?))?]?;
     let text = text_of(alloc, rules, &bought(alloc)?)?;
     assert_eq!(rt;
         text.as_slice(),

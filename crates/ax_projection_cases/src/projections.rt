@@ -107,7 +107,11 @@ fn chain(alloc: Global) -> Result<Chain, Fail> {
     }
 }
 
-fn event(alloc: Global, aggregate: &str, seq: u32, kind: &str, text: &str) -> Result<Cell, Fail> {
+/// An event by its aggregate, number, kind and payload.
+type Told<'a> = (&'a str, u32, &'a str, &'a str);
+
+fn event(alloc: Global, told: Told<'_>) -> Result<Cell, Fail> {
+    let (aggregate, seq, kind, text) = told;
     Ok(Cell::Event(Record {
         aggregate: name(alloc, aggregate)?,
         seq,
@@ -115,6 +119,20 @@ fn event(alloc: Global, aggregate: &str, seq: u32, kind: &str, text: &str) -> Re
         revision: 1,
         payload: Payload::read(alloc, text.as_bytes())?.ok_or("not a payload")?,
     }))
+}
+
+fn push_events(alloc: Global, cells: &mut Vec<Cell>, events: &[Told<'_>]) -> Result<(), Fail> {
+    for told in events {
+        cells.push(event(alloc, *told)?)?;
+    }
+    Ok(())
+}
+
+/// What a rebuild over these events alone gives.
+fn rows_of(alloc: Global, events: &[Told<'_>]) -> Result<Vec<u8>, Fail> {
+    let mut cells = Vec::new(alloc);
+    push_events(alloc, &mut cells, events)?;
+    rebuilt_text(alloc, &cells)
 }
 
 fn write_row(
@@ -158,59 +176,69 @@ fn rebuilt_text(alloc: Global, cells: &[Cell]) -> Result<Vec<u8>, Fail> {
 #[test]
 fn two_items_of_a_card(rt: HostRuntime) -> Result<(), Fail> {
     let alloc = rt.alloc();
-    let cells = vec![in alloc;
-        event(alloc, "card-1", 0, "issued", "amount=100")?,
-        event(alloc, "card-1", 1, "redeemed", "amount=30")?,
-    ]?;
-    let text = rebuilt_text(alloc, &cells)?;
-    assert_eq!(rt; text.as_slice(), b"card-1 2 70\n".as_slice());
-    assert!(rt; rebuilt_text(alloc, &[])?.is_empty());
+    let events = [
+        ("card-1", 0, "issued", "amount=100"),
+        ("card-1", 1, "redeemed", "amount=30"),
+    ];
+    assert_eq!(rt;
+        rows_of(alloc, &events)?.as_slice(),
+        b"card-1 2 70\n".as_slice()
+    );
+    assert!(rt; rows_of(alloc, &[])?.is_empty());
     Ok(())
 }
 
 #[test]
 fn a_purchase_is_split(rt: HostRuntime) -> Result<(), Fail> {
-    let alloc = rt.alloc();
-    let cells = vec![in alloc;
-        event(alloc, "card-1", 0, "bought", "amount=10 fee=3")?,
-        event(alloc, "card-2", 0, "bought", "amount=10 fee=30")?,
-    ]?;
-    let text = rebuilt_text(alloc, &cells)?;
+    let events = [
+        ("card-1", 0, "bought", "amount=10 fee=3"),
+        ("card-2", 0, "bought", "amount=10 fee=30"),
+    ];
+    let text = rows_of(rt.alloc(), &events)?;
     assert_eq!(rt; text.as_slice(), b"card-1 2 7\ncard-2 2 10\n".as_slice());
     Ok(())
 }
 
 #[test]
 fn an_item_fails_in_the_middle(rt: HostRuntime) -> Result<(), Fail> {
-    let alloc = rt.alloc();
-    let cells = vec![in alloc;
-        event(alloc, "card-1", 0, "issued", "amount=100")?,
-        event(alloc, "card-1", 1, "redeemed", "amount=200")?,
-        event(alloc, "card-1", 2, "redeemed", "amount=\"1\"")?,
-        event(alloc, "card-1", 3, "redeemed", "amount=30")?,
-    ]?;
-    let text = rebuilt_text(alloc, &cells)?;
+    let events = [
+        ("card-1", 0, "issued", "amount=100"),
+        ("card-1", 1, "redeemed", "amount=200"),
+        ("card-1", 2, "redeemed", "amount=\"1\""),
+        ("card-1", 3, "redeemed", "amount=30"),
+    ];
+    let text = rows_of(rt.alloc(), &events)?;
     assert_eq!(rt; text.as_slice(), b"card-1 4 70\n".as_slice());
     Ok(())
+}
+
+fn reserved(alloc: Global, aggregate: &str, actor: &str) -> Result<Cell, Fail> {
+    Ok(Cell::Reserved {
+        aggregate: name(alloc, aggregate)?,
+        first_seq: 0,
+        actor: name(alloc, actor)?,
+        at: 5,
+    })
+}
+
+/// A void cell, two events, a reserved cell and two more events.
+fn mixed_cells(alloc: Global) -> Result<Vec<Cell>, Fail> {
+    let mut cells = vec![in alloc; Cell::Void]?;
+    let first = [
+        ("b", 0, "issued", "amount=1"),
+        ("a", 0, "issued", "amount=2"),
+    ];
+    push_events(alloc, &mut cells, &first)?;
+    cells.push(reserved(alloc, "c", "w")?)?;
+    let last = [("b", 1, "issued", "amount=4"), ("a", 1, "other", "")];
+    push_events(alloc, &mut cells, &last)?;
+    Ok(cells)
 }
 
 #[test]
 fn rows_stand_in_the_order_of_first_items(rt: HostRuntime) -> Result<(), Fail> {
     let alloc = rt.alloc();
-    let cells = vec![in alloc;
-        Cell::Void,
-        event(alloc, "b", 0, "issued", "amount=1")?,
-        event(alloc, "a", 0, "issued", "amount=2")?,
-        Cell::Reserved {
-            aggregate: name(alloc, "c")?,
-            first_seq: 0,
-            actor: name(alloc, "w")?,
-            at: 5
-        },
-        event(alloc, "b", 1, "issued", "amount=4")?,
-        event(alloc, "a", 1, "other", "")?,
-    ]?;
-    let text = rebuilt_text(alloc, &cells)?;
+    let text = rebuilt_text(alloc, &mixed_cells(alloc)?)?;
     assert_eq!(rt; text.as_slice(), b"b 2 5\na 2 2\n".as_slice());
     Ok(())
 }
@@ -222,26 +250,45 @@ fn row(alloc: Global, position: u32, field: i64) -> Result<Positioned, Fail> {
     })
 }
 
+/// Puts a row of one field, where the table has less than 10.
+fn put(
+    alloc: Global,
+    table: &mut Table,
+    aggregate: &str,
+    position: u32,
+    field: i64,
+) -> Result<(), Fail> {
+    let aggregate = name(alloc, aggregate)?;
+    let row = row(alloc, position, field)?;
+    if table.len() < 10 {
+        table.put(aggregate, row)?;
+    }
+    Ok(())
+}
+
+fn position_of(alloc: Global, table: &Table, aggregate: &str) -> Result<Option<u32>, Fail> {
+    match table.get(&name(alloc, aggregate)?) {
+        Some(value) => Ok(Some(value.position)),
+        None => Ok(None),
+    }
+}
+
 #[test]
 fn a_put_keeps_the_place(rt: HostRuntime) -> Result<(), Fail> {
     let alloc = rt.alloc();
     let mut table = Table::new(alloc);
     assert_eq!(rt; table.len(), 0);
     table.reserve(2)?;
-    if table.len() < 10 {
-        table.put(name(alloc, "b")?, row(alloc, 1, -1)?)?;
-    }
-    if table.len() < 10 {
-        table.put(name(alloc, "a")?, row(alloc, 2, 0)?)?;
-    }
-    if table.len() < 10 {
-        table.put(name(alloc, "b")?, row(alloc, 4294967295, 7)?)?;
-    }
-    let text = text_of(alloc, &table)?;
-    assert_eq!(rt; text.as_slice(), b"b 4294967295 7\na 2 0\n".as_slice());
+    put(alloc, &mut table, "b", 1, -1)?;
+    put(alloc, &mut table, "a", 2, 0)?;
+    put(alloc, &mut table, "b", 4294967295, 7)?;
+    assert_eq!(rt;
+        text_of(alloc, &table)?.as_slice(),
+        b"b 4294967295 7\na 2 0\n".as_slice()
+    );
     assert!(rt; table.at(2).is_none());
-    assert!(rt; table.get(&name(alloc, "c")?).is_none());
-    assert_eq!(rt; table.get(&name(alloc, "a")?).ok_or("a")?.position, 2);
+    assert_eq!(rt; position_of(alloc, &table, "c")?, None);
+    assert_eq!(rt; position_of(alloc, &table, "a")?, Some(2));
     table.clear();
     assert_eq!(rt; table.len(), 0);
     assert!(rt; table.at(0).is_none());
