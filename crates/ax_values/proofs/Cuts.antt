@@ -3,7 +3,8 @@ use Rattle.std.proofs.Common.{◌≡◌, ℕ, suc, ◌-◌, ◌≤◌, ◌==◌,
 use Rattle.std.specs.List.{list_all}
 use Rattle.std.proofs.lemmas.Bool.Decides.{nat_tests}
 use Rattle.ax_values.specs.Grammar.{Line, Cut, when, cut_step, cut_at, before_last, between}
-use Rattle.ax_values.proofs.Options.{both, and-true, not-true, when-some, then-some, map-some}
+use Rattle.ax_laws.proofs.Tests.{both, and-true, not-true}
+use Rattle.ax_values.proofs.Options.{when-some, then-some, map-some}
 
 -- no byte is the one that parts
 abbrev pub lacks : ℕ → Line → Bool

@@ -1,11 +1,10 @@
 -- Marks and items: what is written is read again, and what is read is written so.
 use Rattle.std.proofs.Common.{◌≡◌, ℕ, ◌-◌, ◌^◌, ◌<◌, ◌≤◌, true, false, ◌∷◌, ◌++◌, Option, Some, option_and_then, refl, sym, ap, subst, ◌∙◌, arith}
 use Rattle.std.specs.Fmt.{decimal}
-use Rattle.ax_values.specs.Grammar.{Name, Line, ItemName, Cut, cut_at, is_digit, small_in, number_to, name_in, ◌>>=◌}
+use Rattle.ax_values.specs.Grammar.{Name, Line, ItemName, Cut, cut_at, is_digit, u32_in, number_to, name_in, ◌>>=◌, Mark}
 use Rattle.ax_values.specs.Words.{item_text}
 use Rattle.ax_values.specs.Readers.{mark_in, item_in}
 use Rattle.ax_values.specs.Seen.{mark_text}
-use Rattle.ax_values.specs.declared.seen.Mark.{Mark}
 use Rattle.ax_values.proofs.Options.{then-some}
 use Rattle.ax_values.proofs.Numbers.{number_to-decimal, from_number_to, digits-decimal}
 use Rattle.ax_values.proofs.Cuts.{lacks, lacks-all, cut_at-append, IsCut, from_cut}
@@ -20,9 +19,9 @@ part_given : ℕ → ℕ → Option Mark
 part_given seq part = Some (record { seq = seq; part = part })
 
 mark_cut : Cut → Option Mark
-mark_cut t = small_in t.before >>= (λ seq. number_to 7 t.after >>= part_given seq)
+mark_cut t = u32_in t.before >>= (λ seq. number_to 7 t.after >>= part_given seq)
 
-pub mark_in-mark_text : (k : Mark) → small_in (decimal k.seq) ≡ Some k.seq → k.part ≤ 7 → mark_in (mark_text k) ≡ Some k
+pub mark_in-mark_text : (k : Mark) → u32_in (decimal k.seq) ≡ Some k.seq → k.part ≤ 7 → mark_in (mark_text k) ≡ Some k
 unfolding mark_cut part_given
 mark_in-mark_text k s p =
     let small = (from_number_to (2 ^ 32 - 1) (decimal k.seq) k.seq (omega arith) s).fits in
@@ -39,7 +38,7 @@ pub from_mark : (w : Line) (k : Mark) → mark_in w ≡ Some k → IsWrittenMark
 unfolding mark_cut part_given
 from_mark w k h =
     let p = then-some (cut_at 46 w) mark_cut k h in
-    let q = then-some (small_in p.from.before) (λ seq. number_to 7 p.from.after >>= part_given seq) k p.gives in
+    let q = then-some (u32_in p.from.before) (λ seq. number_to 7 p.from.after >>= part_given seq) k p.gives in
     let r = then-some (number_to 7 p.from.after) (part_given q.from) k q.gives in
     let s = from_number_to (2 ^ 32 - 1) p.from.before q.from (omega arith) q.held in
     let t = from_number_to 7 p.from.after r.from (omega arith) r.held in
@@ -58,7 +57,7 @@ mark_given aggregate mark = Some (record { aggregate = aggregate; seq = mark.seq
 item_cut : Cut → Option ItemName
 item_cut t = name_in t.before >>= (λ aggregate. mark_in t.after >>= mark_given aggregate)
 
-pub item_in-item_text : (x : ItemName) → name_in x.aggregate ≡ Some x.aggregate → small_in (decimal x.seq) ≡ Some x.seq → x.part ≤ 7 → item_in (item_text x) ≡ Some x
+pub item_in-item_text : (x : ItemName) → name_in x.aggregate ≡ Some x.aggregate → u32_in (decimal x.seq) ≡ Some x.seq → x.part ≤ 7 → item_in (item_text x) ≡ Some x
 unfolding item_cut mark_given
 item_in-item_text x n s p =
     let mark : Mark = record { seq = x.seq; part = x.part } in

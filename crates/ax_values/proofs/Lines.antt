@@ -5,7 +5,7 @@ use Rattle.std.proofs.lemmas.Bool.Decides.{nat_tests}
 use Rattle.std.proofs.lemmas.List.{append-nil}
 use Rattle.ax_values.specs.Grammar.{Line, in_front, piece_step, words_from, line_words}
 use Rattle.ax_values.specs.Words.{spaced, words}
-use Rattle.ax_values.proofs.Options.{both, not-true}
+use Rattle.ax_laws.proofs.Tests.{both, not-true}
 use Rattle.ax_values.proofs.Cuts.{lacks}
 
 -- whether no space of a word parts it, begun within quotes or outside, and it ends outside

@@ -3,7 +3,8 @@ use Rattle.std.proofs.Common.{◌≡◌, ℕ, zero, suc, ◌+◌, ◌<◌, Bool,
 use Rattle.std.specs.List.{list_all, IsAllAdjacentAnswer}
 use Rattle.ax_values.specs.Grammar.{each_in, ◌>>=◌}
 use Rattle.ax_values.specs.Words.{rises}
-use Rattle.ax_values.proofs.Options.{and-true, then-some, map-some}
+use Rattle.ax_laws.proofs.Tests.{and-true}
+use Rattle.ax_values.proofs.Options.{then-some, map-some}
 
 more : {A : Type 0} → A → List A → List A
 more x xs = x ∷ xs

@@ -7,7 +7,8 @@ use Rattle.std.proofs.lemmas.Bool.Decides.{nat_tests}
 use Rattle.std.proofs.lemmas.Fmt.{decimal_nonempty, first_decimal, decimal_digit, digits_decimal, digits_value-decimal, decimal-digits_value}
 use Rattle.std.proofs.lemmas.Str.Parse.{IsNumeralModel, IsDigitsTest, FoldsDigits, numerals_by_fold}
 use Rattle.ax_values.specs.Grammar.{Line, when, is_digit, is_numeral, digit_step, digits_value, number_to, negated, int_in, int_by}
-use Rattle.ax_values.proofs.Options.{both, and-true, when-some, then-some, map-some}
+use Rattle.ax_laws.proofs.Tests.{both, and-true}
+use Rattle.ax_values.proofs.Options.{when-some, then-some, map-some}
 
 tests : IsDigitsTest (λ ds. list_all is_digit ds ≡ true)
 tests = record {

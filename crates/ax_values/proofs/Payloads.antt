@@ -6,7 +6,8 @@ use Rattle.ax_values.specs.Words.{Payload, field_below, rises, words, spaced, qu
 use Rattle.ax_values.specs.Readers.{field_in, payload_in, payload_of}
 use Rattle.ax_values.specs.declared.value.Value.{Value}
 use Rattle.ax_values.specs.declared.value.Field.{Field}
-use Rattle.ax_values.proofs.Options.{both, when-true, when-some, then-some}
+use Rattle.ax_laws.proofs.Tests.{both}
+use Rattle.ax_values.proofs.Options.{when-true, when-some, then-some}
 use Rattle.ax_values.proofs.Numbers.{int_in-signed_decimal, is_int_byte, bytes-int_in}
 use Rattle.ax_values.proofs.Cuts.{lacks-all}
 use Rattle.ax_values.proofs.Values.{IsInGrammar, lacks-name, from_field}

@@ -5,7 +5,7 @@ use Rattle.std.proofs.lemmas.Bool.Decides.{nat_tests}
 use Rattle.std.proofs.lemmas.List.{append-nil}
 use Rattle.ax_values.specs.Grammar.{Line, Cut, each_in, in_front, piece_step, pieces, cut_step, cut_at}
 use Rattle.ax_values.specs.Seen.{comma_led, commas}
-use Rattle.ax_values.proofs.Options.{both, not-true}
+use Rattle.ax_laws.proofs.Tests.{both, not-true}
 use Rattle.ax_values.proofs.Cuts.{lacks, same_byte, from_cut}
 use Rattle.ax_values.proofs.Lists.{behind, behind-read, behind-unread}
 

@@ -1,25 +1,13 @@
 -- Lists that rise in a total order: what a put and a removal do to them, and where a binary search finds their places.
-use Rattle.std.proofs.Common.{◌≡◌, ◌<◌, ◌≤◌, ℕ, zero, suc, Bool, true, false, ◌&&◌, List, [], ◌∷◌, length, get_or, set, refl, sym, ap, ◌∙◌, subst, arith}
+use Rattle.std.proofs.Common.{◌≡◌, ◌<◌, ◌≤◌, ℕ, zero, suc, true, List, [], ◌∷◌, length, get_or, set, refl, sym, ap, ◌∙◌, subst, arith}
 use Rattle.std.specs.Prelude.{insert, remove}
 use Rattle.std.specs.List.Sorted.{IsNonDecreasingBy, IsPartitionPoint}
 use Rattle.std.specs.declared.cmp.Ordering.{Ordering}
 use Rattle.std.specs.declared.cmp.Ordering.TheVariants.{Less, Equal, Greater}
 use Rattle.std.specs.Ordering.{is_lt, match_ordering, ordering_index, ordering_reverse, ordering_then, then_cmp}
 use Rattle.std.specs.Cmp.{IsTotalOrder, alike_right, tied_back, then_flip}
+use Rattle.ax_laws.proofs.Tests.{both, and-true, is-less}
 use Rattle.ax_values.specs.Words.{put_rising, remove_rising, rises}
-
-both : (x y : Bool) → (x && y) ≡ true → (x ≡ true) × (y ≡ true)
-both true y h = (refl, h)
-both false y h = absurd (cc)
-
-together : (x y : Bool) → x ≡ true → y ≡ true → (x && y) ≡ true
-together true y h k = k
-together false y h k = absurd (cc)
-
-lt_less : (o : Ordering) → is_lt o ≡ true → o ≡ Less
-lt_less Less h = refl
-lt_less Equal h = absurd (cc)
-lt_less Greater h = absurd (cc)
 
 tied_first : (p q : Ordering) → ordering_then p q ≡ Equal → (p ≡ Equal) × (q ≡ Equal)
 tied_first Less q h = absurd (cc)
@@ -64,8 +52,8 @@ module _ {A : Type 0} (cmp : A → A → Ordering) (o : IsTotalOrder cmp) where
   -- the first is below every other
   pub rises-first : (x : A) (xs : List A) → Rises (x ∷ xs) → (i : ℕ) (d : A) → i < length xs → cmp x (get_or xs i d) ≡ Less
   rises-first x [] h i d k = absurd (omega arith)
-  rises-first x (y ∷ ys) h zero d k = lt_less (cmp x y) (both _ _ h).0
-  rises-first x (y ∷ ys) h (suc i) d k = o.trans x y (get_or ys i d) (lt_less (cmp x y) (both _ _ h).0) (rises-first y ys (both _ _ h).1 i d (omega arith))
+  rises-first x (y ∷ ys) h zero d k = is-less (cmp x y) (both _ _ h).0
+  rises-first x (y ∷ ys) h (suc i) d k = o.trans x y (get_or ys i d) (is-less (cmp x y) (both _ _ h).0) (rises-first y ys (both _ _ h).1 i d (omega arith))
 
   index_rises : (x y r : A) (p : Ordering) → cmp y r ≡ p → cmp x y ≡ Less → ordering_index (cmp x r) ≤ ordering_index p
   index_rises x y r Less e h = subst (λ q. ordering_index q ≤ 0) (sym (o.trans x y r h e)) (omega arith)
@@ -130,24 +118,24 @@ module _ {A : Type 0} (cmp : A → A → Ordering) (o : IsTotalOrder cmp) where
   -- an equal first element serves as well, and so does one that is further below
   equal-first : (r x : A) (xs : List A) → cmp r x ≡ Equal → Rises (x ∷ xs) → Rises (r ∷ xs)
   equal-first r x [] e h = refl
-  equal-first r x (y ∷ ys) e h = together _ _ (ap is_lt (o.congr r x y e) ∙ (both _ _ h).0) (both _ _ h).1
+  equal-first r x (y ∷ ys) e h = and-true _ _ (ap is_lt (o.congr r x y e) ∙ (both _ _ h).0) (both _ _ h).1
 
   lower-first : (w x : A) (xs : List A) → cmp w x ≡ Less → Rises (x ∷ xs) → Rises (w ∷ xs)
   lower-first w x [] e h = refl
-  lower-first w x (y ∷ ys) e h = together _ _ (less w y (o.trans w x y e (lt_less (cmp x y) (both _ _ h).0))) (both _ _ h).1
+  lower-first w x (y ∷ ys) e h = and-true _ _ (less w y (o.trans w x y e (is-less (cmp x y) (both _ _ h).0))) (both _ _ h).1
 
   put-behind-by : (p : Ordering) (w r x : A) (xs : List A) → cmp r x ≡ p → cmp w r ≡ Less → cmp w x ≡ Less → Rises (x ∷ xs) → (cmp x r ≡ Less → Rises (x ∷ put_rising cmp r xs))
       → Rises (w ∷ match_ordering p (r ∷ x ∷ xs) (r ∷ xs) (x ∷ put_rising cmp r xs))
-  put-behind-by Less w r x xs e h k s more = together _ _ (less w r h) (together _ _ (less r x e) s)
-  put-behind-by Equal w r x xs e h k s more = together _ _ (less w r h) (equal-first r x xs e s)
-  put-behind-by Greater w r x xs e h k s more = together _ _ (less w x k) (more (turned_greater r x e))
+  put-behind-by Less w r x xs e h k s more = and-true _ _ (less w r h) (and-true _ _ (less r x e) s)
+  put-behind-by Equal w r x xs e h k s more = and-true _ _ (less w r h) (equal-first r x xs e s)
+  put-behind-by Greater w r x xs e h k s more = and-true _ _ (less w x k) (more (turned_greater r x e))
 
   put-behind : (w r : A) (xs : List A) → cmp w r ≡ Less → Rises (w ∷ xs) → Rises (w ∷ put_rising cmp r xs)
-  put-behind w r [] h s = together _ _ (less w r h) refl
-  put-behind w r (x ∷ xs) h s = put-behind-by (cmp r x) w r x xs refl h (lt_less (cmp w x) (both _ _ s).0) (both _ _ s).1 (λ e. put-behind x r xs e (both _ _ s).1)
+  put-behind w r [] h s = and-true _ _ (less w r h) refl
+  put-behind w r (x ∷ xs) h s = put-behind-by (cmp r x) w r x xs refl h (is-less (cmp w x) (both _ _ s).0) (both _ _ s).1 (λ e. put-behind x r xs e (both _ _ s).1)
 
   put-by : (p : Ordering) (r x : A) (xs : List A) → cmp r x ≡ p → Rises (x ∷ xs) → Rises (match_ordering p (r ∷ x ∷ xs) (r ∷ xs) (x ∷ put_rising cmp r xs))
-  put-by Less r x xs e s = together _ _ (less r x e) s
+  put-by Less r x xs e s = and-true _ _ (less r x e) s
   put-by Equal r x xs e s = equal-first r x xs e s
   put-by Greater r x xs e s = put-behind x r xs (turned_greater r x e) s
 
@@ -158,13 +146,13 @@ module _ {A : Type 0} (cmp : A → A → Ordering) (o : IsTotalOrder cmp) where
 
   remove-behind-by : (p : Ordering) (w r x : A) (xs : List A) → cmp w x ≡ Less → Rises (x ∷ xs) → Rises (x ∷ remove_rising cmp r xs)
       → Rises (w ∷ match_ordering p (x ∷ xs) xs (x ∷ remove_rising cmp r xs))
-  remove-behind-by Less w r x xs k s more = together _ _ (less w x k) s
+  remove-behind-by Less w r x xs k s more = and-true _ _ (less w x k) s
   remove-behind-by Equal w r x xs k s more = lower-first w x xs k s
-  remove-behind-by Greater w r x xs k s more = together _ _ (less w x k) more
+  remove-behind-by Greater w r x xs k s more = and-true _ _ (less w x k) more
 
   remove-behind : (w r : A) (xs : List A) → Rises (w ∷ xs) → Rises (w ∷ remove_rising cmp r xs)
   remove-behind w r [] s = refl
-  remove-behind w r (x ∷ xs) s = remove-behind-by (cmp r x) w r x xs (lt_less (cmp w x) (both _ _ s).0) (both _ _ s).1 (remove-behind x r xs (both _ _ s).1)
+  remove-behind w r (x ∷ xs) s = remove-behind-by (cmp r x) w r x xs (is-less (cmp w x) (both _ _ s).0) (both _ _ s).1 (remove-behind x r xs (both _ _ s).1)
 
   remove-by : (p : Ordering) (r x : A) (xs : List A) → Rises (x ∷ xs) → Rises (match_ordering p (x ∷ xs) xs (x ∷ remove_rising cmp r xs))
   remove-by Less r x xs s = s

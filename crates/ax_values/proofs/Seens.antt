@@ -1,18 +1,15 @@
 -- What was seen: what is written is read again, and what is read is written so.
-use Rattle.std.proofs.Common.{◌≡◌, ℕ, ◌-◌, ◌^◌, ◌<◌, ◌==◌, Bool, true, false, not, if◌then◌else◌, List, [], ◌∷◌, ◌++◌, map, Option, Some, None, codes, refl, sym, ap, subst, ◌∙◌, append_assoc, arith}
-use Rattle.std.specs.List.{list_all}
+use Rattle.std.proofs.Common.{◌≡◌, ℕ, ◌-◌, ◌^◌, ◌<◌, ◌==◌, Bool, true, false, not, if◌then◌else◌, List, [], ◌∷◌, ◌++◌, map, Option, Some, codes, refl, sym, ap, subst, ◌∙◌, append_assoc, arith}
 use Rattle.std.specs.Fmt.{decimal}
 use Rattle.std.specs.Str.{bytes_eq}
-use Rattle.std.proofs.lemmas.Bool.Decides.{nat_tests}
-use Rattle.std.proofs.lemmas.List.{append-nil}
 use Rattle.std.proofs.lemmas.Slice.Eq.{bytes_eq-Decides}
-use Rattle.ax_values.specs.Grammar.{Line, when, each_in, pieces, between, small_in, ◌>>=◌}
+use Rattle.ax_values.specs.Grammar.{Line, when, each_in, pieces, between, u32_in, ◌>>=◌, Mark}
 use Rattle.ax_values.specs.Words.{rises, mark_below}
 use Rattle.ax_values.specs.Readers.{mark_in}
 use Rattle.ax_values.specs.Seen.{comma_led, commas, bracketed, mark_text, marks_text, parked_text, seen_words, comma_pieces, marks_in, parked_in, seen_in}
-use Rattle.ax_values.specs.declared.seen.Mark.{Mark}
 use Rattle.ax_values.specs.declared.seen.Seen.{Seen}
-use Rattle.ax_values.proofs.Options.{both, and-true, when-true, when-some, then-some}
+use Rattle.ax_laws.proofs.Tests.{both, and-true}
+use Rattle.ax_values.proofs.Options.{when-true, when-some, then-some}
 use Rattle.ax_values.proofs.Numbers.{number_to-decimal, from_number_to}
 use Rattle.ax_values.proofs.Cuts.{lacks, between-append, from_between}
 use Rattle.ax_values.proofs.Items.{lacks-decimal, from_mark}
@@ -111,7 +108,7 @@ from_seen (n ∷ []) s h = cc
 from_seen (n ∷ p ∷ []) s h = cc
 from_seen (n ∷ p ∷ ms ∷ v ∷ ws) s h = cc
 from_seen (n ∷ p ∷ ms ∷ []) s h =
-    let q = then-some (small_in n) (λ position. parked_in p >>= (λ parked. marks_in ms >>= seen_given position parked)) s h in
+    let q = then-some (u32_in n) (λ position. parked_in p >>= (λ parked. marks_in ms >>= seen_given position parked)) s h in
     let r = then-some (parked_in p) (λ parked. marks_in ms >>= seen_given q.from parked) s q.gives in
     let t = then-some (marks_in ms) (seen_given q.from r.from) s r.gives in
     let is_seen : record { position = q.from; parked = r.from; marks = t.from } ≡ s = cc in

@@ -9,7 +9,8 @@ use Rattle.ax_values.specs.Words.{quoted, value_text, field_text}
 use Rattle.ax_values.specs.Readers.{value_by, begins_with, value_in, field_in}
 use Rattle.ax_values.specs.declared.value.Value.{Value}
 use Rattle.ax_values.specs.declared.value.Field.{Field}
-use Rattle.ax_values.proofs.Options.{both, and-true, when-true, when-some, then-some, map-some}
+use Rattle.ax_laws.proofs.Tests.{both, and-true}
+use Rattle.ax_values.proofs.Options.{when-true, when-some, then-some, map-some}
 use Rattle.ax_values.proofs.Numbers.{int_in-signed_decimal, from_int, is_int_byte, bytes-int_in}
 use Rattle.ax_values.proofs.Cuts.{lacks, lacks-all, cut_at-append, from_cut, between-append, from_between}
 

@@ -3,7 +3,7 @@ use Rattle.std.specs.Prelude.{◌≡◌, refl, true, false, Bool, [], ◌∷◌,
 use Rattle.std.specs.Fmt.{digits}
 use Rattle.sha1.specs.Sha1.{first_words, schedule, rounds, compress, hash_after, digest_bytes, sha1}
 use Rattle.uuid.specs.Text.{by_index}
-use Rattle.ax_values.specs.Grammar.{Line, pieces, number_in, small_in, int_in, name_in, text_in}
+use Rattle.ax_values.specs.Grammar.{Line, pieces, number_in, u32_in, int_in, name_in, text_in}
 use Rattle.ax_values.specs.Words.{words, payload_words, item_text}
 use Rattle.ax_values.specs.Readers.{item_in, payload_of}
 use Rattle.ax_values.specs.Seen.{seen_words, seen_in}
@@ -12,7 +12,7 @@ use Rattle.ax_values.specs.EventId.{event_id}
 numbers : map number_in (codes "0" ∷ codes "7" ∷ codes "10" ∷ codes "18446744073709551615" ∷ codes "" ∷ codes "00" ∷ codes "01" ∷ codes "-1" ∷ codes "+1" ∷ codes "1a" ∷ codes " 1" ∷ codes "18446744073709551616" ∷ []) ≡ Some 0 ∷ Some 7 ∷ Some 10 ∷ Some 18446744073709551615 ∷ None ∷ None ∷ None ∷ None ∷ None ∷ None ∷ None ∷ None ∷ []
 numbers = refl
 
-small_numbers : map small_in (codes "4294967295" ∷ codes "4294967296" ∷ []) ≡ Some 4294967295 ∷ None ∷ []
+small_numbers : map u32_in (codes "4294967295" ∷ codes "4294967296" ∷ []) ≡ Some 4294967295 ∷ None ∷ []
 small_numbers = refl
 
 ints : map int_in (codes "0" ∷ codes "-1" ∷ codes "9223372036854775807" ∷ codes "-9223372036854775808" ∷ codes "-0" ∷ codes "--1" ∷ codes "-" ∷ codes "+0" ∷ codes "9223372036854775808" ∷ codes "-9223372036854775809" ∷ codes "-01" ∷ []) ≡ Some (pos 0) ∷ Some (negsuc 0) ∷ Some (pos 9223372036854775807) ∷ Some (negsuc 9223372036854775807) ∷ None ∷ None ∷ None ∷ None ∷ None ∷ None ∷ None ∷ []

@@ -15,6 +15,11 @@ pub record ItemName : Type 0 where
   pub seq : ℕ
   pub part : ℕ
 
+-- an item of an aggregate that is known
+pub record Mark : Type 0 where
+  pub seq : ℕ
+  pub part : ℕ
+
 infixl 10 ◌>>=◌
 abbrev pub ◌>>=◌ : {A B : Type 0} → Option A → (A → Option B) → Option B
 o >>= f = option_and_then f o
@@ -116,8 +121,8 @@ abbrev pub number_in : Line → Option ℕ
 number_in w = number_to (2 ^ 64 - 1) w
 
 -- a number of 32 bits
-abbrev pub small_in : Line → Option ℕ
-small_in w = number_to (2 ^ 32 - 1) w
+abbrev pub u32_in : Line → Option ℕ
+u32_in w = number_to (2 ^ 32 - 1) w
 
 abbrev pub negated : ℕ → Option ℤ
 negated zero = None

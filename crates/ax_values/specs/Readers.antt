@@ -1,10 +1,9 @@
 -- Readers of words. Each answers a value exactly where the bytes are a word of the grammar, and that value.
 use Rattle.std.specs.Prelude.{ℕ, ◌==◌, Bool, true, false, List, [], ◌∷◌, Option, Some, option_map}
-use Rattle.ax_values.specs.Grammar.{Line, ItemName, ◌>>=◌, when, each_in, cut_at, line_words, number_to, small_in, int_in, name_in, text_in}
+use Rattle.ax_values.specs.Grammar.{Line, ItemName, ◌>>=◌, when, each_in, cut_at, line_words, number_to, u32_in, int_in, name_in, text_in, Mark}
 use Rattle.ax_values.specs.Words.{Payload, field_below, rises}
 use Rattle.ax_values.specs.declared.value.Value.{Value}
 use Rattle.ax_values.specs.declared.value.Field.{Field}
-use Rattle.ax_values.specs.declared.seen.Mark.{Mark}
 
 -- ---- values and payloads
 
@@ -45,7 +44,7 @@ most_part = 7
 abbrev pub mark_in : Line → Option Mark
 mark_in w = do
   t ← cut_at 46 w
-  seq ← small_in t.before
+  seq ← u32_in t.before
   part ← number_to most_part t.after
   Some (record { seq = seq; part = part })
 

@@ -1,12 +1,10 @@
 -- What a batch saw of an aggregate: its words, and their reader.
-use Rattle.std.specs.Prelude.{Bool, true, false, List, [], ◌∷◌, ◌++◌, map, Option, Some, None, codes, nat_le, if◌then◌else◌}
-use Rattle.std.specs.List.{list_all}
+use Rattle.std.specs.Prelude.{Bool, true, false, List, [], ◌∷◌, ◌++◌, map, Option, Some, None, codes, if◌then◌else◌}
 use Rattle.std.specs.Fmt.{decimal}
 use Rattle.std.specs.Str.{bytes_eq}
-use Rattle.ax_values.specs.Grammar.{Line, ◌>>=◌, when, each_in, pieces, between, small_in}
+use Rattle.ax_values.specs.Grammar.{Line, ◌>>=◌, when, each_in, pieces, between, u32_in, Mark}
 use Rattle.ax_values.specs.Words.{rises, mark_below}
-use Rattle.ax_values.specs.Readers.{most_part, mark_in}
-use Rattle.ax_values.specs.declared.seen.Mark.{Mark}
+use Rattle.ax_values.specs.Readers.{mark_in}
 use Rattle.ax_values.specs.declared.seen.Seen.{Seen}
 
 -- ---- texts
@@ -26,10 +24,6 @@ bracketed t = 91 ∷ (t ++ 93 ∷ [])
 
 abbrev pub mark_text : Mark → Line
 mark_text k = decimal k.seq ++ 46 ∷ decimal k.part
-
--- no part is past 7
-abbrev pub parts_fit : List Mark → Bool
-parts_fit ks = list_all (λ k. nat_le k.part most_part) ks
 
 abbrev pub marks_text : List Mark → Line
 marks_text ks = bracketed (commas (map mark_text ks))
@@ -60,7 +54,7 @@ parked_in w = if bytes_eq (codes "parked") w then Some true else when (bytes_eq 
 
 abbrev pub seen_in : List Line → Option Seen
 seen_in (n ∷ p ∷ ms ∷ []) = do
-  position ← small_in n
+  position ← u32_in n
   parked ← parked_in p
   marks ← marks_in ms
   Some (record { position = position; parked = parked; marks = marks })

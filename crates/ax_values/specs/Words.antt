@@ -6,10 +6,9 @@ use Rattle.std.specs.Str.{bytes_eq}
 use Rattle.std.specs.Cmp.Lexicographic.{slice_cmp}
 use Rattle.std.specs.declared.cmp.Ordering.{Ordering}
 use Rattle.std.specs.Ordering.{nat_cmp, ordering_then, match_ordering, is_lt}
-use Rattle.ax_values.specs.Grammar.{Name, Line, ItemName}
+use Rattle.ax_values.specs.Grammar.{Name, Line, ItemName, Mark}
 use Rattle.ax_values.specs.declared.value.Value.{Value}
 use Rattle.ax_values.specs.declared.value.Field.{Field}
-use Rattle.ax_values.specs.declared.seen.Mark.{Mark}
 
 -- a payload is its fields, rising by name
 abbrev pub Payload : Type 0
@@ -23,6 +22,11 @@ same_name a b = bytes_eq a b
 -- names stand in the order of their bytes
 abbrev pub name_cmp : Name → Name → Ordering
 name_cmp = slice_cmp nat_cmp
+
+-- the sequence that an aggregate's items belong to: its own, or that of the whole processor with this name
+abbrev pub sequence_in : Option Name → Name → Name
+sequence_in None aggregate = aggregate
+sequence_in (Some whole) aggregate = whole
 
 -- items stand by identifier, then sequence number, then part
 abbrev pub item_cmp : ItemName → ItemName → Ordering

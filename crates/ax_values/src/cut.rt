@@ -38,7 +38,7 @@ pub fn line_words(alloc: Global, line: &[u8]) -> Result<Vec<&[u8]>, NoMemory>
     ensures value { IfOk result (λ parts. map (λ part. part.now) parts.items ≡ line_words line.now) }
     ensures whole { IfOk result (λ parts. words (map (λ part. part.now) parts.items) ≡ line.now) }
 {
-    let mut parts = Vec::new(alloc);
+    let mut parts = Vec::with_capacity(alloc, 8)?;
     let mut start: usize = 0;
     let mut inside = false;
     for i in 0..line.len() {

@@ -1,7 +1,7 @@
 ghost use Rattle.std.specs.Prelude.{◌≡◌, IfOk};
 ghost use Rattle.ax_values.specs.EventId.{event_id};
 
-use crate::{Name, NoMemory, write_small};
+use crate::{Name, NoMemory, write_u32};
 use std::alloc::Global;
 use uuid::Uuid;
 
@@ -13,6 +13,6 @@ pub fn event_id(alloc: Global, aggregate: &Name, seq: u32) -> Result<Uuid, NoMem
     let mut text = Vec::new(alloc);
     aggregate.write(&mut text)?;
     text.push(b'/')?;
-    write_small(alloc, seq, &mut text)?;
+    write_u32(seq, &mut text)?;
     Ok(Uuid::new_v5(&Uuid::NAMESPACE_URL, &text))
 }

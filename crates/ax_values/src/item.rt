@@ -7,7 +7,7 @@ ghost use Rattle.std.specs.Cmp.Rules.{comparing};
 ghost use Rattle.std.specs.Ordering.{as_partial_cmp};
 ghost use Rattle.ax_values.specs.Orders.{item_cmp_total};
 
-use crate::{Duplicate, ListOf, Mark, Name, NoMemory, Payload, cut_at, whole_or_none, write_small};
+use crate::{Duplicate, ListOf, Mark, Name, NoMemory, Payload, cut_at, undo_on_error, write_u32};
 use std::alloc::Global;
 use std::cmp::Ordering;
 use std::marker::Model;
@@ -57,26 +57,26 @@ impl ItemName {
     }
 
     /// Adds `aggregate.seq.part`. Where memory is wanting, nothing is added.
-    pub fn write(&self, alloc: Global, out: &mut Vec<u8>) -> Result<(), NoMemory>
+    pub fn write(&self, out: &mut Vec<u8>) -> Result<(), NoMemory>
         ensures ok { OnOk result (out.new.items ≡ out.old.items ++ item_text self.now) }
         ensures err { OnErr result (out.new.items ≡ out.old.items) }
         ensures again { OnOk result (item_in (item_text self.now) ≡ Some self.now) }
     {
         let start = out.len();
-        let written = self.write_parts(alloc, out);
-        whole_or_none(out, start, written)
+        let written = self.write_parts(out);
+        undo_on_error(out, start, written)
     }
 
-    fn write_parts(&self, alloc: Global, out: &mut Vec<u8>) -> Result<(), NoMemory>
+    fn write_parts(&self, out: &mut Vec<u8>) -> Result<(), NoMemory>
         ensures ok { OnOk result (out.new.items ≡ out.old.items ++ item_text self.now) }
         ensures front { OnErr result (take (length out.old.items) out.new.items ≡ out.old.items) }
         ensures again { OnOk result (item_in (item_text self.now) ≡ Some self.now) }
     {
         self.aggregate.write(out)?;
         out.push(b'.')?;
-        write_small(alloc, self.seq, out)?;
+        write_u32(self.seq, out)?;
         out.push(b'.')?;
-        write_small(alloc, self.part, out)
+        write_u32(self.part, out)
     }
 }
 

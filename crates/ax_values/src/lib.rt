@@ -15,8 +15,8 @@ mod record;
 mod same;
 mod seen;
 mod text;
+mod undo;
 mod value;
-mod whole;
 
 pub use cell::Cell;
 pub use cut::{between, cut_at, line_words};
@@ -27,12 +27,12 @@ pub use list::{Duplicate, Line, ListOf, copy_all};
 pub use memory::NoMemory;
 pub use name::{Name, Names};
 pub use number::{
-    read_int, read_number, read_number_to, read_small, write_int, write_number, write_small,
+    read_int, read_number, read_number_to, read_u32, write_int, write_number, write_u32,
 };
 pub use payload::Payload;
 pub use record::{Record, Records};
 pub use same::{Same, all_same};
 pub use seen::{Mark, Marks, Seen};
 pub use text::Text;
+pub use undo::undo_on_error;
 pub use value::{Field, Value};
-pub use whole::whole_or_none;

@@ -10,16 +10,17 @@ ghost use Rattle.ax_values.specs.Grammar.{IsReadBack, is_name, is_name_byte, is_
 ghost use Rattle.ax_values.specs.Words.{same_name};
 
 use crate::{Duplicate, ListOf, NoMemory};
+use smallvec::SmallVec;
 use std::alloc::Global;
 use std::cmp::Ordering;
 use std::hash::{Hash, Hasher};
 use std::marker::Model;
 
 /// A name: 1 to 64 bytes, a letter or digit, and then letters, digits, `_` or `-`.
-/// The usual text of a UUID is one.
+/// The usual text of a UUID is one. Up to 24 bytes stand in the value itself, so most names take no memory of their own.
 #[derive(Drop)]
 pub struct Name {
-    bytes: Vec<u8>,
+    bytes: SmallVec<u8, 24>,
 }
 
 pub type Names = ListOf<Name>;
@@ -39,12 +40,14 @@ impl Model for Name {
 }
 
 impl Name {
-    /// The name of these bytes.
+    /// The name of these bytes. It takes no memory.
     pub fn of(parts: Vec<u8>) -> Name
         requires { IsTrue (is_name parts.items) }
         ensures { result ≡ parts.items }
     {
-        Name { bytes: parts }
+        Name {
+            bytes: SmallVec::from_vec(parts),
+        }
     }
 
     /// The name's bytes.
@@ -52,7 +55,7 @@ impl Name {
         ensures value { result.now ≡ self.now }
         ensures grammar { IsTrue (is_name self.now) }
     {
-        &self.bytes
+        self.bytes.as_slice()
     }
 
     /// The name that the text is. None comes exactly outside the grammar of names.
@@ -64,7 +67,7 @@ impl Name {
             return Ok(None);
         }
         Ok(Some(Name {
-            bytes: Vec::from_slice(alloc, text)?,
+            bytes: SmallVec::from_slice(alloc, text)?,
         }))
     }
 
@@ -90,7 +93,7 @@ impl Name {
 impl Duplicate for Name {
     fn copy(&self, alloc: Global) -> Result<Name, NoMemory> {
         Ok(Name {
-            bytes: Vec::from_slice(alloc, &self.bytes)?,
+            bytes: SmallVec::from_slice(alloc, self.parts())?,
         })
     }
 }

@@ -1,10 +1,10 @@
 ghost use Rattle.std.specs.Prelude.{◌≡◌, ◌-◌, ◌^◌, ◌++◌, nat_lt, nat_le, Some, IsTrue, OnOk, OnErr, IfSome};
 ghost use Rattle.std.specs.List.{list_all};
 ghost use Rattle.std.specs.Fmt.{decimal, signed_decimal};
-ghost use Rattle.ax_values.specs.Grammar.{IsReadBack, is_digit, is_numeral, digit_step, digits_value, when, number_to, number_in, small_in, int_in, negated};
+ghost use Rattle.ax_values.specs.Grammar.{IsReadBack, is_digit, is_numeral, digit_step, digits_value, when, number_to, number_in, u32_in, int_in, negated};
 
 use crate::NoMemory;
-use std::alloc::Global;
+use itoa::Buffer;
 
 /// The number of 64 bits that the text is: `0`, or digits of which the first is not `0`. None comes exactly outside this.
 pub fn read_number(text: &[u8]) -> Option<u64>
@@ -28,8 +28,8 @@ pub fn read_number_to(top: u64, text: &[u8]) -> Option<u64>
 }
 
 /// The number of 32 bits that the text is. None comes exactly outside this.
-pub fn read_small(text: &[u8]) -> Option<u32>
-    ensures value { result ≡ small_in text.now }
+pub fn read_u32(text: &[u8]) -> Option<u32>
+    ensures value { result ≡ u32_in text.now }
     ensures written { IfSome result (λ number. decimal number ≡ text.now) }
 {
     let number = read_number_to((1 << 32) - 1, text)?;
@@ -53,34 +53,34 @@ pub fn read_int(text: &[u8]) -> Option<i64>
 }
 
 /// Adds the number's digits. Where memory is wanting, nothing is added.
-pub fn write_number(alloc: Global, number: u64, out: &mut Vec<u8>) -> Result<(), NoMemory>
+pub fn write_number(number: u64, out: &mut Vec<u8>) -> Result<(), NoMemory>
     ensures ok { OnOk result (out.new.items ≡ out.old.items ++ decimal number) }
     ensures err { OnErr result (out.new.items ≡ out.old.items) }
     ensures again { IsReadBack number_in (decimal number) number }
 {
-    let digits = number.to_string(alloc)?;
-    out.extend_from_slice(digits.as_bytes())?;
+    let mut digits = Buffer::new();
+    out.extend_from_slice(digits.format(number).as_bytes())?;
     Ok(())
 }
 
 /// Adds the digits of a number of 32 bits. Where memory is wanting, nothing is added.
 #[tactic(auto, unfolding(crate::specs::Grammar::IsReadBack))]
-pub fn write_small(alloc: Global, number: u32, out: &mut Vec<u8>) -> Result<(), NoMemory>
+pub fn write_u32(number: u32, out: &mut Vec<u8>) -> Result<(), NoMemory>
     ensures ok { OnOk result (out.new.items ≡ out.old.items ++ decimal number) }
     ensures err { OnErr result (out.new.items ≡ out.old.items) }
-    ensures again { IsReadBack small_in (decimal number) number }
+    ensures again { IsReadBack u32_in (decimal number) number }
 {
-    write_number(alloc, u64::from(number), out)
+    write_number(u64::from(number), out)
 }
 
-/// Adds the int's digits, behind a `-` where it is below 0. Where memory is wanting, nothing is added.
-pub fn write_int(alloc: Global, int: i64, out: &mut Vec<u8>) -> Result<(), NoMemory>
+/// Adds the int's digits, after a `-` where it is below 0. Where memory is wanting, nothing is added.
+pub fn write_int(int: i64, out: &mut Vec<u8>) -> Result<(), NoMemory>
     ensures ok { OnOk result (out.new.items ≡ out.old.items ++ signed_decimal int) }
     ensures err { OnErr result (out.new.items ≡ out.old.items) }
     ensures again { IsReadBack int_in (signed_decimal int) int }
 {
-    let digits = int.to_string(alloc)?;
-    out.extend_from_slice(digits.as_bytes())?;
+    let mut digits = Buffer::new();
+    out.extend_from_slice(digits.format(int).as_bytes())?;
     Ok(())
 }
 

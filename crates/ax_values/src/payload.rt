@@ -3,7 +3,7 @@ ghost use Rattle.ax_values.specs.Grammar.{each_in};
 ghost use Rattle.ax_values.specs.Readers.{field_in, payload_in, payload_of};
 ghost use Rattle.ax_values.specs.Words.{rises, field_below, field_of, words, spaced, payload_words};
 
-use crate::{Duplicate, Field, Name, NoMemory, Value, copy_all, line_words, whole_or_none};
+use crate::{Duplicate, Field, Name, NoMemory, Value, copy_all, line_words, undo_on_error};
 use std::alloc::Global;
 use std::marker::Model;
 
@@ -82,14 +82,14 @@ impl Payload {
     }
 
     /// Adds the fields with one space between each two. Where memory is wanting, nothing is added.
-    pub fn write(&self, alloc: Global, out: &mut Vec<u8>) -> Result<(), NoMemory>
+    pub fn write(&self, out: &mut Vec<u8>) -> Result<(), NoMemory>
         ensures ok { OnOk result (out.new.items ≡ out.old.items ++ words (payload_words self.now)) }
         ensures err { OnErr result (out.new.items ≡ out.old.items) }
         ensures again { OnOk result (payload_of (words (payload_words self.now)) ≡ Some self.now) }
     {
         let start = out.len();
-        let written = write_fields(alloc, self.parts(), out);
-        whole_or_none(out, start, written)
+        let written = write_fields(self.parts(), out);
+        undo_on_error(out, start, written)
     }
 }
 
@@ -120,7 +120,7 @@ fn read_fields(alloc: Global, words: &[&[u8]]) -> Result<Option<Vec<Field>>, NoM
     Ok(Some(fields))
 }
 
-fn write_fields(alloc: Global, fields: &[Field], out: &mut Vec<u8>) -> Result<(), NoMemory>
+fn write_fields(fields: &[Field], out: &mut Vec<u8>) -> Result<(), NoMemory>
     ensures ok { OnOk result (out.new.items ≡ out.old.items ++ words (payload_words fields.now)) }
     ensures front { OnErr result (take (length out.old.items) out.new.items ≡ out.old.items) }
     ensures again { OnOk result (each_in field_in (payload_words fields.now) ≡ Some fields.now) }
@@ -128,20 +128,20 @@ fn write_fields(alloc: Global, fields: &[Field], out: &mut Vec<u8>) -> Result<()
     match fields {
         [] => Ok(()),
         [first, rest @ ..] => {
-            first.write(alloc, out)?;
-            write_spaced(alloc, rest, out)
+            first.write(out)?;
+            write_spaced(rest, out)
         }
     }
 }
 
-fn write_spaced(alloc: Global, fields: &[Field], out: &mut Vec<u8>) -> Result<(), NoMemory>
+fn write_spaced(fields: &[Field], out: &mut Vec<u8>) -> Result<(), NoMemory>
     ensures ok { OnOk result (out.new.items ≡ out.old.items ++ spaced (payload_words fields.now)) }
     ensures front { OnErr result (take (length out.old.items) out.new.items ≡ out.old.items) }
     ensures again { OnOk result (each_in field_in (payload_words fields.now) ≡ Some fields.now) }
 {
     for field in fields {
         out.push(b' ')?;
-        field.write(alloc, out)?;
+        field.write(out)?;
     }
     Ok(())
 }

@@ -2,20 +2,33 @@ ghost use Rattle.std.specs.Prelude.{◌≡◌, ◌≤◌, ◌++◌, length, take
 ghost use Rattle.ax_values.specs.Grammar.{each_in, pieces};
 ghost use Rattle.ax_values.specs.Readers.{mark_in};
 ghost use Rattle.ax_values.specs.Words.{rises, mark_below, words};
-ghost use Rattle.ax_values.specs.Seen.{parts_fit, mark_text, marks_text, comma_led, commas, comma_pieces, marks_in, parked_text, parked_in, seen_words, seen_in};
+ghost use Rattle.ax_values.specs.Seen.{mark_text, marks_text, comma_led, commas, comma_pieces, marks_in, parked_text, parked_in, seen_words, seen_in};
 
 use crate::{
-    Duplicate, NoMemory, between, copy_all, cut_at, read_number_to, read_small, whole_or_none,
-    write_small,
+    Duplicate, NoMemory, between, copy_all, cut_at, read_number_to, read_u32, undo_on_error,
+    write_u32,
 };
 use std::alloc::Global;
 use std::marker::Model;
 
-/// An item of an aggregate that is known: its sequence number and its part.
+/// An item of an aggregate that is known: the sequence number of its record, and its part of that record, from 0 to 7.
 #[derive(Clone, Copy, Debug, PartialEq, Eq)]
 pub struct Mark {
     pub seq: u32,
     pub part: u32,
+}
+
+impl Model for Mark {
+    ghost use Rattle.std.specs.Prelude.{◌≤◌};
+    ghost use Rattle.ax_values.specs.Grammar.{Mark as Label};
+
+    ghost Value = { Label };
+
+    ghost view = { λ mark. record { seq = mark.seq; part = mark.part } };
+
+    ghost invariant = { λ mark. mark.part ≤ 7 };
+
+    ghost inverse = { λ label. record { seq = label.seq; part = label.part } };
 }
 
 impl Mark {
@@ -26,7 +39,7 @@ impl Mark {
         ensures part { IfSome result (λ mark. mark.part ≤ 7) }
     {
         let (seq, part) = cut_at(b'.', text)?;
-        let seq = read_small(seq)?;
+        let seq = read_u32(seq)?;
         let part = read_number_to(7, part)?;
         Some(Mark {
             seq,
@@ -35,14 +48,14 @@ impl Mark {
     }
 
     /// Adds `seq.part`. Where memory is wanting, nothing is added.
-    pub fn write(&self, alloc: Global, out: &mut Vec<u8>) -> Result<(), NoMemory>
+    pub fn write(&self, out: &mut Vec<u8>) -> Result<(), NoMemory>
         ensures ok { OnOk result (out.new.items ≡ out.old.items ++ mark_text self.now) }
         ensures err { OnErr result (out.new.items ≡ out.old.items) }
-        ensures again { OnOk result (self.now.part ≤ 7 → mark_in (mark_text self.now) ≡ Some self.now) }
+        ensures again { OnOk result (mark_in (mark_text self.now) ≡ Some self.now) }
     {
         let start = out.len();
-        let written = self.write_parts(alloc, out);
-        whole_or_none(out, start, written)
+        let written = self.write_parts(out);
+        undo_on_error(out, start, written)
     }
 
     /// Whether the mark stands before another, by sequence number and then part.
@@ -52,14 +65,14 @@ impl Mark {
         self.seq < other.seq || self.seq == other.seq && self.part < other.part
     }
 
-    fn write_parts(&self, alloc: Global, out: &mut Vec<u8>) -> Result<(), NoMemory>
+    fn write_parts(&self, out: &mut Vec<u8>) -> Result<(), NoMemory>
         ensures ok { OnOk result (out.new.items ≡ out.old.items ++ mark_text self.now) }
         ensures front { OnErr result (take (length out.old.items) out.new.items ≡ out.old.items) }
-        ensures again { OnOk result (self.now.part ≤ 7 → mark_in (mark_text self.now) ≡ Some self.now) }
+        ensures again { OnOk result (mark_in (mark_text self.now) ≡ Some self.now) }
     {
-        write_small(alloc, self.seq, out)?;
+        write_u32(self.seq, out)?;
         out.push(b'.')?;
-        write_small(alloc, self.part, out)
+        write_u32(self.part, out)
     }
 }
 
@@ -71,7 +84,7 @@ pub struct Marks {
 
 impl Model for Marks {
     ghost use Rattle.std.specs.Prelude.{List, IsTrue};
-    ghost use Rattle.ax_values.specs.declared.seen.Mark.{Mark};
+    ghost use Rattle.ax_values.specs.Grammar.{Mark};
     ghost use Rattle.ax_values.specs.Words.{rises, mark_below};
 
     ghost Value = { List Mark };
@@ -113,14 +126,14 @@ impl Marks {
     }
 
     /// Adds the marks with commas between them, in brackets. Where memory is wanting, nothing is added.
-    pub fn write(&self, alloc: Global, out: &mut Vec<u8>) -> Result<(), NoMemory>
+    pub fn write(&self, out: &mut Vec<u8>) -> Result<(), NoMemory>
         ensures ok { OnOk result (out.new.items ≡ out.old.items ++ marks_text self.now) }
         ensures err { OnErr result (out.new.items ≡ out.old.items) }
-        ensures again { OnOk result (IsTrue (parts_fit self.now) → marks_in (marks_text self.now) ≡ Some self.now) }
+        ensures again { OnOk result (marks_in (marks_text self.now) ≡ Some self.now) }
     {
         let start = out.len();
-        let written = write_bracketed(alloc, self.parts(), out);
-        whole_or_none(out, start, written)
+        let written = write_bracketed(self.parts(), out);
+        undo_on_error(out, start, written)
     }
 }
 
@@ -141,7 +154,7 @@ impl Seen {
         let [position, parked, marks] = words else {
             return Ok(None);
         };
-        let Some(position) = read_small(position) else {
+        let Some(position) = read_u32(position) else {
             return Ok(None);
         };
         let Some(parked) = read_parked(parked) else {
@@ -158,27 +171,27 @@ impl Seen {
     }
 
     /// Adds the three words, with a space between each two. Where memory is wanting, nothing is added.
-    pub fn write(&self, alloc: Global, out: &mut Vec<u8>) -> Result<(), NoMemory>
+    pub fn write(&self, out: &mut Vec<u8>) -> Result<(), NoMemory>
         ensures ok { OnOk result (out.new.items ≡ out.old.items ++ words (seen_words self.now)) }
         ensures err { OnErr result (out.new.items ≡ out.old.items) }
-        ensures again { OnOk result (IsTrue (parts_fit self.now.marks) → seen_in (seen_words self.now) ≡ Some self.now) }
+        ensures again { OnOk result (seen_in (seen_words self.now) ≡ Some self.now) }
     {
         let start = out.len();
-        let written = self.write_parts(alloc, out);
-        whole_or_none(out, start, written)
+        let written = self.write_parts(out);
+        undo_on_error(out, start, written)
     }
 
     #[tactic(auto, unfolding(crate::specs::Grammar::IsReadBack))]
-    fn write_parts(&self, alloc: Global, out: &mut Vec<u8>) -> Result<(), NoMemory>
+    fn write_parts(&self, out: &mut Vec<u8>) -> Result<(), NoMemory>
         ensures ok { OnOk result (out.new.items ≡ out.old.items ++ words (seen_words self.now)) }
         ensures front { OnErr result (take (length out.old.items) out.new.items ≡ out.old.items) }
-        ensures again { OnOk result (IsTrue (parts_fit self.now.marks) → seen_in (seen_words self.now) ≡ Some self.now) }
+        ensures again { OnOk result (seen_in (seen_words self.now) ≡ Some self.now) }
     {
-        write_small(alloc, self.position, out)?;
+        write_u32(self.position, out)?;
         out.push(b' ')?;
         out.extend_from_slice(parked_word(self.parked))?;
         out.push(b' ')?;
-        self.marks.write(alloc, out)
+        self.marks.write(out)
     }
 }
 
@@ -216,39 +229,39 @@ fn read_pieces(alloc: Global, text: &[u8]) -> Result<Option<Vec<Mark>>, NoMemory
     Ok(Some(marks))
 }
 
-fn write_bracketed(alloc: Global, marks: &[Mark], out: &mut Vec<u8>) -> Result<(), NoMemory>
+fn write_bracketed(marks: &[Mark], out: &mut Vec<u8>) -> Result<(), NoMemory>
     ensures ok { OnOk result (out.new.items ≡ out.old.items ++ marks_text marks.now) }
     ensures front { OnErr result (take (length out.old.items) out.new.items ≡ out.old.items) }
-    ensures again { OnOk result (IsTrue (parts_fit marks.now) → each_in mark_in (map mark_text marks.now) ≡ Some marks.now) }
+    ensures again { OnOk result (each_in mark_in (map mark_text marks.now) ≡ Some marks.now) }
 {
     out.push(b'[')?;
-    write_marks(alloc, marks, out)?;
+    write_marks(marks, out)?;
     out.push(b']')?;
     Ok(())
 }
 
-fn write_marks(alloc: Global, marks: &[Mark], out: &mut Vec<u8>) -> Result<(), NoMemory>
+fn write_marks(marks: &[Mark], out: &mut Vec<u8>) -> Result<(), NoMemory>
     ensures ok { OnOk result (out.new.items ≡ out.old.items ++ commas (map mark_text marks.now)) }
     ensures front { OnErr result (take (length out.old.items) out.new.items ≡ out.old.items) }
-    ensures again { OnOk result (IsTrue (parts_fit marks.now) → each_in mark_in (map mark_text marks.now) ≡ Some marks.now) }
+    ensures again { OnOk result (each_in mark_in (map mark_text marks.now) ≡ Some marks.now) }
 {
     match marks {
         [] => Ok(()),
         [first, rest @ ..] => {
-            first.write(alloc, out)?;
-            write_led(alloc, rest, out)
+            first.write(out)?;
+            write_led(rest, out)
         }
     }
 }
 
-fn write_led(alloc: Global, marks: &[Mark], out: &mut Vec<u8>) -> Result<(), NoMemory>
+fn write_led(marks: &[Mark], out: &mut Vec<u8>) -> Result<(), NoMemory>
     ensures ok { OnOk result (out.new.items ≡ out.old.items ++ comma_led (map mark_text marks.now)) }
     ensures front { OnErr result (take (length out.old.items) out.new.items ≡ out.old.items) }
-    ensures again { OnOk result (IsTrue (parts_fit marks.now) → each_in mark_in (map mark_text marks.now) ≡ Some marks.now) }
+    ensures again { OnOk result (each_in mark_in (map mark_text marks.now) ≡ Some marks.now) }
 {
     for mark in marks {
         out.push(b',')?;
-        mark.write(alloc, out)?;
+        mark.write(out)?;
     }
     Ok(())
 }

@@ -3,14 +3,16 @@ ghost use Rattle.std.specs.List.{list_all};
 ghost use Rattle.ax_values.specs.Grammar.{IsReadBack, when, is_text_byte, is_content, text_in};
 ghost use Rattle.ax_values.specs.Words.{quoted};
 
-use crate::{Duplicate, NoMemory, between, whole_or_none};
+use crate::{Duplicate, NoMemory, between, undo_on_error};
+use smallvec::SmallVec;
 use std::alloc::Global;
 use std::marker::Model;
 
 /// A text: 0 to 64 bytes from 32 to 126 without `"` and `\`. It is written between quotes.
+/// Up to 24 bytes stand in the value itself.
 #[derive(Drop)]
 pub struct Text {
-    bytes: Vec<u8>,
+    bytes: SmallVec<u8, 24>,
 }
 
 impl Model for Text {
@@ -28,12 +30,22 @@ impl Model for Text {
 }
 
 impl Text {
+    /// The text of these bytes, which stand between the quotes. It takes no memory.
+    pub fn of(parts: Vec<u8>) -> Text
+        requires { IsTrue (is_content parts.items) }
+        ensures { result ≡ parts.items }
+    {
+        Text {
+            bytes: SmallVec::from_vec(parts),
+        }
+    }
+
     /// The text whose bytes, without quotes, these are. None comes exactly where they are no content of a text.
-    pub fn of(alloc: Global, parts: &[u8]) -> Result<Option<Text>, NoMemory>
+    pub fn from_content(alloc: Global, parts: &[u8]) -> Result<Option<Text>, NoMemory>
         ensures { IfOk result (λ text. text ≡ when (is_content parts.now) parts.now) }
     {
         if is_content(parts) {
-            let bytes = Vec::from_slice(alloc, parts)?;
+            let bytes = SmallVec::from_slice(alloc, parts)?;
             Ok(Some(Text { bytes }))
         } else {
             Ok(None)
@@ -45,7 +57,7 @@ impl Text {
         ensures value { result.now ≡ self.now }
         ensures grammar { IsTrue (is_content self.now) }
     {
-        &self.bytes
+        self.bytes.as_slice()
     }
 
     /// The text that these bytes are, with their quotes. None comes exactly outside the grammar of texts.
@@ -57,7 +69,7 @@ impl Text {
             return Ok(None);
         };
         Ok(Some(Text {
-            bytes: Vec::from_slice(alloc, content)?,
+            bytes: SmallVec::from_slice(alloc, content)?,
         }))
     }
 
@@ -69,14 +81,14 @@ impl Text {
     {
         let start = out.len();
         let written = write_quoted(self.parts(), out);
-        whole_or_none(out, start, written)
+        undo_on_error(out, start, written)
     }
 }
 
 impl Duplicate for Text {
     fn copy(&self, alloc: Global) -> Result<Text, NoMemory> {
         Ok(Text {
-            bytes: Vec::from_slice(alloc, &self.bytes)?,
+            bytes: SmallVec::from_slice(alloc, self.parts())?,
         })
     }
 }

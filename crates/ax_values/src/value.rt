@@ -1,8 +1,9 @@
 ghost use Rattle.std.specs.Prelude.{◌≡◌, ◌++◌, length, take, Some, IfOk, IfSome, OnOk, OnErr};
 ghost use Rattle.ax_values.specs.Readers.{value_in, field_in};
-ghost use Rattle.ax_values.specs.Words.{value_text, field_text};
+ghost use Rattle.std.specs.List.Sorted.{IsBinarySearchResult, IsSearchInRange};
+ghost use Rattle.ax_values.specs.Words.{field_cmp, value_text, field_text};
 
-use crate::{Duplicate, Name, NoMemory, Text, cut_at, read_int, whole_or_none, write_int};
+use crate::{Duplicate, Name, NoMemory, Text, cut_at, read_int, undo_on_error, write_int};
 use std::alloc::Global;
 
 /// What a field holds: a whole number of 64 bits with sign, or a text.
@@ -33,13 +34,13 @@ impl Value {
 
     /// Adds the value: an int's digits, or a text between quotes. Where memory is wanting, nothing is added.
     #[tactic(auto, unfolding(crate::specs::Grammar::IsReadBack))]
-    pub fn write(&self, alloc: Global, out: &mut Vec<u8>) -> Result<(), NoMemory>
+    pub fn write(&self, out: &mut Vec<u8>) -> Result<(), NoMemory>
         ensures ok { OnOk result (out.new.items ≡ out.old.items ++ value_text self.now) }
         ensures err { OnErr result (out.new.items ≡ out.old.items) }
         ensures again { OnOk result (value_in (value_text self.now) ≡ Some self.now) }
     {
         match self {
-            Value::Int(int) => write_int(alloc, *int, out),
+            Value::Int(int) => write_int(*int, out),
             Value::Text(text) => text.write(out),
         }
     }
@@ -64,24 +65,32 @@ impl Field {
     }
 
     /// Adds `name=value`. Where memory is wanting, nothing is added.
-    pub fn write(&self, alloc: Global, out: &mut Vec<u8>) -> Result<(), NoMemory>
+    pub fn write(&self, out: &mut Vec<u8>) -> Result<(), NoMemory>
         ensures ok { OnOk result (out.new.items ≡ out.old.items ++ field_text self.now) }
         ensures err { OnErr result (out.new.items ≡ out.old.items) }
         ensures again { OnOk result (field_in (field_text self.now) ≡ Some self.now) }
     {
         let start = out.len();
-        let written = self.write_parts(alloc, out);
-        whole_or_none(out, start, written)
+        let written = self.write_parts(out);
+        undo_on_error(out, start, written)
     }
 
-    fn write_parts(&self, alloc: Global, out: &mut Vec<u8>) -> Result<(), NoMemory>
+    /// Where the field of this one's name stands among fields that rise by name, or else where it would stand.
+    pub fn place_among(&self, fields: &[Field]) -> Result<usize, usize>
+        ensures bound { IsSearchInRange result (length fields.now) }
+        ensures place { IsBinarySearchResult (λ other. field_cmp other self.now) fields.now result }
+    {
+        fields.binary_search_by(|other| other.name.cmp(&self.name))
+    }
+
+    fn write_parts(&self, out: &mut Vec<u8>) -> Result<(), NoMemory>
         ensures ok { OnOk result (out.new.items ≡ out.old.items ++ field_text self.now) }
         ensures front { OnErr result (take (length out.old.items) out.new.items ≡ out.old.items) }
         ensures again { OnOk result (field_in (field_text self.now) ≡ Some self.now) }
     {
         self.name.write(out)?;
         out.push(b'=')?;
-        self.value.write(alloc, out)
+        self.value.write(out)
     }
 }
 

@@ -1,7 +1,8 @@
 use Rattle.std.proofs.Common.{◌≡◌, ◌-◌, ◌==◌, ◌&&◌, false, get_or, length, take, drop, sym, ap, ◌∙◌, arith}
 use Rattle.std.proofs.lemmas.Bool.Decides.{nat_tests}
 use Rattle.ax_values.specs.Grammar.{when}
-use Rattle.ax_values.proofs.Options.{and-true, when-true}
+use Rattle.ax_laws.proofs.Tests.{and-true}
+use Rattle.ax_values.proofs.Options.{when-true}
 use Rattle.ax_values.proofs.Cuts.{between-ends}
 use Rattle.ax_values.proofs.cut.between.Goals.{else-begin-first-via-then-begin-first+else-end-last, else-begin-first-via-else-begin-first}
 use Rattle.ax_values.proofs.cut.between.Goals as goal

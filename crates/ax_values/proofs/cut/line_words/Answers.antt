@@ -10,7 +10,7 @@ use Rattle.ax_values.proofs.cut.line_words.Goals as goal
 
 pub loop-i-init : goal.loop-i-init
 loop-i-init c = record {
-  same = ap (λ xs. map (λ w. w.now) xs ++ glued [] (words_from false c.args.line.now)) c.new-parts.ensures.items ∙ glued_nothing false c.args.line.now;
+  same = ap (λ xs. map (λ w. w.now) xs ++ glued [] (words_from false c.args.line.now)) c.in_ok-parts.ensures.items ∙ glued_nothing false c.args.line.now;
   bound = omega arith;
 }
 

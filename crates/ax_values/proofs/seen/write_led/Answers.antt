@@ -8,5 +8,5 @@ pub loop-mark-preserved : goal.loop-mark-preserved
 loop-mark-preserved c = record {
   text = grind (arith, common_steps, led-next);
   front = grind (arith, common_steps, take-front);
-  again = λ h. grind (arith, common_steps, each_in-push);
+  again = grind (arith, common_steps, each_in-push);
 }

@@ -2,8 +2,8 @@ ghost use Rattle.std.specs.Prelude.{◌≡◌, length, take, OnOk, OnErr};
 
 use crate::NoMemory;
 
-/// Takes back what was written behind the first `start` bytes, where the writing failed; hands its result on.
-pub fn whole_or_none(
+/// Takes back what was written after the first `start` bytes, where the writing failed. It returns the writing's result.
+pub fn undo_on_error(
     out: &mut Vec<u8>,
     start: usize,
     written: Result<(), NoMemory>,
