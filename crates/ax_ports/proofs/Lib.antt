@@ -1,3 +1,3 @@
-pub mod Moves
+pub mod BytesMoved
 pub mod RowOrder
 pub mod Pieces

@@ -1,3 +1,4 @@
 pub mod Ports
 pub mod Tables
+pub mod Calls
 pub mod Memory

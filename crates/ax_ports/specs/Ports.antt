@@ -1,5 +1,5 @@
 -- Counts of faults, and what a read and a write do to the bytes that a source has left and a sink has taken.
-use Rattle.std.specs.Prelude.{◌≡◌, ℕ, ◌+◌, ◌-◌, ◌^◌, ◌<◌, ◌≤◌, min, List, length, take, Option, Result, MatchResult, OnOk, OnErr, IfOk}
+use Rattle.std.specs.Prelude.{◌≡◌, ℕ, ◌+◌, ◌-◌, ◌^◌, ◌<◌, ◌≤◌, min, List, length, take, drop, Option, Some, Result, MatchResult, IfSome, OnOk, OnErr, IfOk}
 use Rattle.std.specs.Io.KnownBytes.{Appends}
 
 -- a count after one more, up to the last `u64`
@@ -24,6 +24,10 @@ TakesSome r piece = IfOk r (λ n. (n ≤ length piece) × (0 < length piece → 
 abbrev pub WritesFront : {E : Type 0} → Option (List ℕ) → Option (List ℕ) → Result ℕ E → List ℕ → Type 0
 WritesFront old new r piece =
     MatchResult r (λ n. Appends old new (take n piece)) (λ _. (k : ℕ) × (k ≤ length piece - 1) × Appends old new (take k piece))
+
+-- of known bytes the first n are taken, and no more
+abbrev pub TakesFirst : Option (List ℕ) → Option (List ℕ) → ℕ → Type 0
+TakesFirst old new n = IfSome old (λ all. (n ≤ length all) × (new ≡ Some (drop n all)))
 
 -- known bytes grow by a front of the text
 abbrev pub AppendsFront : Option (List ℕ) → Option (List ℕ) → List ℕ → Type 0

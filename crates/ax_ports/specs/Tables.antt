@@ -1,5 +1,5 @@
 -- Kept tables: their rows in order, what changes do to them, and the cause of a keeper's faults.
-use Rattle.std.specs.Prelude.{◌≡◌, ◌≤◌, ℕ, Bool, List, [], ◌∷◌, Result, OnOk, IsErrOf}
+use Rattle.std.specs.Prelude.{◌≡◌, ◌≤◌, ℕ, Bool, List, [], ◌∷◌, ◌++◌, Option, Result, IfSome, IsTrue, OnOk, OnErr, IsErrOf}
 use Rattle.std.specs.declared.cmp.Ordering.{Ordering}
 use Rattle.std.specs.Ordering.{nat_cmp, ordering_then, is_lt}
 use Rattle.ax_values.specs.Grammar.{Line}
@@ -31,6 +31,12 @@ change_made (Change.Remove table key) rows = remove_rising row_cmp (row_at table
 abbrev pub changes_made : List Change → List TableRow → List TableRow
 changes_made [] rows = rows
 changes_made (c ∷ cs) rows = changes_made cs (change_made c rows)
+
+-- a load adds the rows that are told, which rise; at an error the list is as before
+pub record Loads {T E : Type 0} (rows : Option (List TableRow)) (old new : List TableRow) (result : Result T E) : Type 0 where
+  pub loaded : OnOk result (IfSome rows (λ all. new ≡ old ++ all))
+  pub rising : IfSome rows (λ all. IsTrue (are_rows all))
+  pub err : OnErr result (new ≡ old)
 
 -- `Failed` is answered only where the count of faults rose, and any other answer leaves it
 pub record HasKeeperCause {T : Type 0} (before now : ℕ) (result : Result T KeeperFault) : Type 0 where

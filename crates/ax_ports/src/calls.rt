@@ -1,6 +1,7 @@
-ghost use Rattle.std.specs.Prelude.{◌≡◌, ◌==◌, ◌+◌, ◌-◌, ◌^◌, min, is_err, IsErr};
+ghost use Rattle.std.specs.Prelude.{◌≡◌, ◌==◌, is_err, IsErr};
 ghost use Rattle.std.specs.List.{list_any};
-ghost use Rattle.ax_ports.specs.Ports.{HasCause};
+ghost use Rattle.ax_ports.specs.Calls.{is_due, called};
+ghost use Rattle.ax_ports.specs.Ports.{one_more, HasCause};
 
 use crate::Failed;
 
@@ -26,20 +27,19 @@ impl Calls {
     /// One more call. It fails exactly where its number is among those that fail.
     pub(crate) fn next(&mut self) -> Result<(), Failed>
         ensures cause { HasCause self.old.faults self.new.faults result }
-        ensures fails { is_err result ≡ list_any (λ number. number == self.old.made) self.old.fails.items }
-        ensures made { self.new.made ≡ min (self.old.made + 1) (2 ^ 64 - 1) }
-        ensures kept { self.new.fails ≡ self.old.fails }
+        ensures fails { is_err result ≡ is_due self.old }
+        ensures calls { self.new ≡ called self.old (is_due self.old) }
     {
-        let fails = is_among(&self.fails, self.made);
+        let due = is_among(&self.fails, self.made);
         self.made = self.made.saturating_add(1);
-        if fails { self.fail() } else { Ok(()) }
+        if due { self.fail() } else { Ok(()) }
     }
 
     /// The call has failed.
     pub(crate) fn fail(&mut self) -> Result<(), Failed>
         ensures cause { HasCause self.old.faults self.new.faults result }
         ensures fails { IsErr result }
-        ensures kept { self.new ≡ record self.old { faults = self.new.faults } }
+        ensures kept { self.new ≡ record self.old { faults = one_more self.old.faults } }
     {
         self.faults = self.faults.saturating_add(1);
         Err(Failed)

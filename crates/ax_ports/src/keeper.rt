@@ -1,8 +1,10 @@
-ghost use Rattle.std.specs.Prelude.{◌≡◌, ◌++◌, ℕ, List, Option, option_map, OnOk, OnErr, IfSome, IsTrue};
+ghost use Rattle.std.specs.Prelude.{◌≡◌, ℕ, List, Option, option_map, OnOk, OnErr};
 ghost use Rattle.ax_ports.specs.declared.keeper.TableRow.{TableRow};
+ghost use Rattle.ax_ports.specs.declared.keeper.KeeperFault.TheVariants as fault;
 ghost use Rattle.ax_ports.specs.Ports.{one_more};
-ghost use Rattle.ax_ports.specs.Tables.{changes_made, are_rows, HasKeeperCause};
+ghost use Rattle.ax_ports.specs.Tables.{changes_made, Loads, HasKeeperCause};
 
+use crate::Failed;
 use ax_values::{Duplicate, Line, NoMemory};
 use std::alloc::Global;
 
@@ -30,6 +32,22 @@ pub enum KeeperFault {
     Memory,
 }
 
+impl From<Failed> for KeeperFault {
+    ghost from_gives = { λ _ made. made ≡ fault.Failed };
+
+    fn from(_: Failed) -> KeeperFault {
+        KeeperFault::Failed
+    }
+}
+
+impl From<NoMemory> for KeeperFault {
+    ghost from_gives = { λ _ made. made ≡ fault.Memory };
+
+    fn from(_: NoMemory) -> KeeperFault {
+        KeeperFault::Memory
+    }
+}
+
 /// Keeps tables between runs.
 pub trait Keeper {
     /// How often it has failed.
@@ -43,9 +61,7 @@ pub trait Keeper {
 
     /// Adds all rows to the list, rising by table and key. At an error the list is as before.
     fn load(&mut self, alloc: Global, out: &mut Vec<TableRow>) -> Result<(), KeeperFault>
-        ensures loaded { OnOk result (IfSome (tables self.old) (λ rows. out.new.items ≡ out.old.items ++ rows)) }
-        ensures rising { IfSome (tables self.old) (λ rows. IsTrue (are_rows rows)) }
-        ensures err { OnErr result (out.new.items ≡ out.old.items) }
+        ensures rows { Loads (tables self.old) out.old.items out.new.items result }
         ensures tables { tables self.new ≡ tables self.old }
         ensures commits { commits self.new ≡ commits self.old }
         ensures cause { HasKeeperCause (faults self.old) (faults self.new) result };

@@ -1,13 +1,11 @@
-ghost use Rattle.std.specs.Prelude.{◌≡◌, ◌≤◌, ◌+◌, ◌<◌, ◌==◌, [], length, vec_len, vec_capacity, is_err, IsTrue, MatchResult, IfErr, Some, option_map, OnOk, OnErr, IfSome, ◌++◌};
-ghost use Rattle.std.specs.List.{list_any};
+ghost use Rattle.std.specs.Prelude.{◌≡◌, ◌≤◌, ◌+◌, ◌<◌, ◌++◌, [], length, vec_len, vec_capacity, IsTrue, OnOk, OnErr};
 ghost use Rattle.std.specs.List.Sorted.{IsBinarySearchResult, IsSearchInRange};
-ghost use Rattle.ax_ports.specs.Ports.{one_more};
-ghost use Rattle.ax_ports.specs.Tables.{are_rows, row_cmp, row_at, change_made, changes_made, HasKeeperCause};
+ghost use Rattle.ax_ports.specs.Tables.{are_rows, row_cmp, row_at, change_made, changes_made};
 
 use crate::calls::Calls;
-use crate::{Change, Failed, Keeper, KeeperFault, TableRow};
+use crate::{Change, Keeper, KeeperFault, TableRow};
 use ax_values::{Line, NoMemory, copy_all};
-use std::alloc::{AllocError, Global};
+use std::alloc::Global;
 use std::cmp::Ordering;
 
 /// Tables in memory. The calls with these numbers fail.
@@ -19,50 +17,15 @@ pub struct MemoryKeeper {
     ghost rising: { IsTrue (are_rows rows.items) },
 }
 
-impl From<Failed> for KeeperFault {
-    ghost use Rattle.std.specs.Prelude.{◌≡◌};
-    ghost use Rattle.ax_ports.specs.declared.keeper.KeeperFault.TheVariants as fault;
-
-    ghost from_gives = { λ _ made. made ≡ fault.Failed };
-
-    fn from(_: Failed) -> KeeperFault {
-        KeeperFault::Failed
-    }
-}
-
-impl From<NoMemory> for KeeperFault {
-    ghost use Rattle.std.specs.Prelude.{◌≡◌};
-    ghost use Rattle.ax_ports.specs.declared.keeper.KeeperFault.TheVariants as fault;
-
-    ghost from_gives = { λ _ made. made ≡ fault.Memory };
-
-    fn from(_: NoMemory) -> KeeperFault {
-        KeeperFault::Memory
-    }
-}
-
-impl From<AllocError> for KeeperFault {
-    ghost use Rattle.std.specs.Prelude.{◌≡◌};
-    ghost use Rattle.ax_ports.specs.declared.keeper.KeeperFault.TheVariants as fault;
-
-    ghost from_gives = { λ _ made. made ≡ fault.Memory };
-
-    fn from(_: AllocError) -> KeeperFault {
-        KeeperFault::Memory
-    }
-}
-
 impl MemoryKeeper {
-    ghost use Rattle.ax_ports.specs.Memory.{keeper_rows, keeper_faults, keeper_commits, keeper_fails, keeper_calls};
+    ghost use Rattle.ax_ports.specs.Memory.{keeper_rows, keeper_commits, keeper_calls};
 
     /// A keeper of these rows, which rise by table and key. It fails at the calls with these numbers, counted from 0.
     pub fn new(rows: Vec<TableRow>, fails: Vec<u32>) -> MemoryKeeper
         requires { IsTrue (are_rows rows.items) }
         ensures rows { keeper_rows result ≡ rows.items }
-        ensures faults { keeper_faults result ≡ 0 }
         ensures commits { keeper_commits result ≡ 0 }
-        ensures fails { keeper_fails result ≡ fails.items }
-        ensures calls { keeper_calls result ≡ 0 }
+        ensures calls { keeper_calls result ≡ record { fails = fails; made = 0; faults = 0 } }
     {
         MemoryKeeper {
             rows,
@@ -81,30 +44,68 @@ impl MemoryKeeper {
 }
 
 impl Keeper for MemoryKeeper {
-    ghost use Rattle.std.specs.Prelude.{Some};
-    ghost use Rattle.ax_ports.specs.Memory.{keeper_rows, keeper_faults, keeper_commits};
+    ghost use Rattle.std.specs.Prelude.{◌≡◌, ◌↔◌, Some, option_map, OnOk, OnErr, IsTrue, IsErrOf};
+    ghost use Rattle.ax_ports.specs.declared.keeper.KeeperFault.{KeeperFault};
+    ghost use Rattle.ax_ports.specs.Ports.{one_more};
+    ghost use Rattle.ax_ports.specs.Tables.{changes_made, Loads, HasKeeperCause};
+    ghost use Rattle.ax_ports.specs.Calls.{is_due, called};
+    ghost use Rattle.ax_ports.specs.Memory.{keeper_rows, keeper_commits, keeper_calls};
 
-    ghost faults = { λ keeper. keeper_faults keeper };
+    ghost faults = { λ keeper. (keeper_calls keeper).faults };
 
     ghost commits = { λ keeper. Some (keeper_commits keeper) };
 
     ghost tables = { λ keeper. Some (keeper_rows keeper) };
 
-    fn load(&mut self, alloc: Global, out: &mut Vec<TableRow>) -> Result<(), KeeperFault> {
+    fn load(&mut self, alloc: Global, out: &mut Vec<TableRow>) -> Result<(), KeeperFault>
+        ensures rows { Loads (Some (keeper_rows self.old)) out.old.items out.new.items result }
+        ensures tables { Some (keeper_rows self.new) ≡ Some (keeper_rows self.old) }
+        ensures commits { Some (keeper_commits self.new) ≡ Some (keeper_commits self.old) }
+        ensures cause { HasKeeperCause (keeper_calls self.old).faults (keeper_calls self.new).faults result }
+        ensures fails { IsErrOf result KeeperFault.Failed ↔ IsTrue (is_due (keeper_calls self.old)) }
+        ensures calls { keeper_calls self.new ≡ called (keeper_calls self.old) (is_due (keeper_calls self.old)) }
+    {
         self.calls.next()?;
-        let mut rows = copy_all(alloc, &self.rows)?;
-        out.append(&mut rows)?;
+        add_copies(alloc, &self.rows, out)?;
         Ok(())
     }
 
-    fn commit(&mut self, alloc: Global, changes: &[Change]) -> Result<(), KeeperFault> {
+    fn commit(&mut self, alloc: Global, changes: &[Change]) -> Result<(), KeeperFault>
+        ensures ok { OnOk result (Some (keeper_rows self.new) ≡ option_map (changes_made changes.now) (Some (keeper_rows self.old))) }
+        ensures err { OnErr result (Some (keeper_rows self.new) ≡ Some (keeper_rows self.old)) }
+        ensures commits { Some (keeper_commits self.new) ≡ option_map one_more (Some (keeper_commits self.old)) }
+        ensures cause { HasKeeperCause (keeper_calls self.old).faults (keeper_calls self.new).faults result }
+        ensures fails { IsErrOf result KeeperFault.Failed ↔ IsTrue (is_due (keeper_calls self.old)) }
+        ensures calls { keeper_calls self.new ≡ called (keeper_calls self.old) (is_due (keeper_calls self.old)) }
+    {
         self.commits = self.commits.saturating_add(1);
         self.calls.next()?;
-        let copies = copy_all(alloc, changes)?;
-        self.rows.reserve(copies.len())?;
-        make_all(&mut self.rows, copies);
+        change_rows(alloc, &mut self.rows, changes)?;
         Ok(())
     }
+}
+
+// Adds copies of all rows to the list. At an error the list is as before.
+fn add_copies(alloc: Global, rows: &[TableRow], out: &mut Vec<TableRow>) -> Result<(), NoMemory>
+    ensures ok { OnOk result (out.new.items ≡ out.old.items ++ rows.now) }
+    ensures err { OnErr result (out.new.items ≡ out.old.items) }
+{
+    let mut copies = copy_all(alloc, rows)?;
+    out.append(&mut copies)?;
+    Ok(())
+}
+
+// Makes all changes in order, or none.
+fn change_rows(alloc: Global, rows: &mut Vec<TableRow>, changes: &[Change]) -> Result<(), NoMemory>
+    requires { IsTrue (are_rows rows.old.items) }
+    ensures ok { OnOk result (rows.new.items ≡ changes_made changes.now rows.old.items) }
+    ensures err { OnErr result (rows.new.items ≡ rows.old.items) }
+    ensures rising { IsTrue (are_rows rows.new.items) }
+{
+    let copies = copy_all(alloc, changes)?;
+    rows.reserve(copies.len())?;
+    make_all(rows, copies);
+    Ok(())
 }
 
 // Makes the changes in order. It takes no memory.

@@ -30,14 +30,12 @@ pub struct MemorySink {
 }
 
 impl MemorySink {
-    ghost use Rattle.ax_ports.specs.Memory.{sink_taken, sink_faults, sink_fails, sink_calls};
+    ghost use Rattle.ax_ports.specs.Memory.{sink_taken, sink_calls};
 
     /// A sink that has taken nothing. It fails at the calls with these numbers, counted from 0.
     pub fn new(alloc: Global, fails: Vec<u32>) -> MemorySink
         ensures taken { sink_taken result ≡ [] }
-        ensures faults { sink_faults result ≡ 0 }
-        ensures fails { sink_fails result ≡ fails.items }
-        ensures calls { sink_calls result ≡ 0 }
+        ensures calls { sink_calls result ≡ record { fails = fails; made = 0; faults = 0 } }
     {
         MemorySink {
             bytes: Vec::new(alloc),
@@ -54,23 +52,24 @@ impl MemorySink {
 }
 
 impl Sink for MemorySink {
-    ghost use Rattle.std.specs.Prelude.{Some, ◌≡◌, ◌==◌, IsTrue, IsErr, IfOk, length};
-    ghost use Rattle.std.specs.List.{list_any};
-    ghost use Rattle.ax_ports.specs.Ports.{HasCause, TakesSome, WritesFront, one_more};
-    ghost use Rattle.ax_ports.specs.Memory.{sink_taken, sink_faults, sink_fails, sink_calls};
+    ghost use Rattle.std.specs.Prelude.{Some, ◌≡◌, IsTrue, IsErr, IfOk, OnErr, is_err, length};
+    ghost use Rattle.ax_ports.specs.Ports.{HasCause, TakesSome, WritesFront};
+    ghost use Rattle.ax_ports.specs.Calls.{is_due, called};
+    ghost use Rattle.ax_ports.specs.Memory.{sink_taken, sink_calls};
 
     ghost taken = { λ s. Some (sink_taken s) };
 
-    ghost faults = { λ s. sink_faults s };
+    ghost faults = { λ s. (sink_calls s).faults };
 
-    // It takes the whole piece, unless the call is one that fails or memory is wanting.
+    // It takes the whole piece, unless the call is one that fails or memory is wanting. Then it takes nothing.
     fn write(&mut self, piece: &[u8]) -> Result<usize, Failed>
         ensures count { TakesSome result piece.now }
         ensures bytes { WritesFront (Some (sink_taken self.old)) (Some (sink_taken self.new)) result piece.now }
-        ensures cause { HasCause (sink_faults self.old) (sink_faults self.new) result }
+        ensures cause { HasCause (sink_calls self.old).faults (sink_calls self.new).faults result }
         ensures whole { IfOk result (λ count. count ≡ length piece.now) }
-        ensures fails { IsTrue (list_any (λ number. number == sink_calls self.old) (sink_fails self.old)) → IsErr result }
-        ensures calls { (sink_calls self.new ≡ one_more (sink_calls self.old)) × (sink_fails self.new ≡ sink_fails self.old) }
+        ensures err { OnErr result (sink_taken self.new ≡ sink_taken self.old) }
+        ensures fails { IsTrue (is_due (sink_calls self.old)) → IsErr result }
+        ensures calls { sink_calls self.new ≡ called (sink_calls self.old) (is_err result) }
     {
         self.calls.next()?;
         if self.bytes.extend_from_slice(piece).is_err() {

@@ -1,4 +1,4 @@
-ghost use Rattle.std.specs.Prelude.{◌≡◌, ◌≤◌, ℕ, List, Option, Some, None, min, length, take, drop, vec_len, IsErr};
+ghost use Rattle.std.specs.Prelude.{◌≡◌, ◌≤◌, ℕ, List, Option, Some, None, min, length, take, drop, vec_len, is_some, IsErr, IsFalse};
 ghost use Rattle.std.specs.Io.{ReadsAtMost};
 ghost use Rattle.std.specs.Io.KnownBytes.{ReadConsumes};
 ghost use Rattle.ax_ports.specs.Ports.{HasCause};
@@ -33,14 +33,12 @@ pub struct MemorySource {
 }
 
 impl MemorySource {
-    ghost use Rattle.ax_ports.specs.Memory.{source_left, source_faults, source_fails, source_calls};
+    ghost use Rattle.ax_ports.specs.Memory.{source_left, source_calls};
 
     /// A source of these bytes. It fails at the calls with these numbers, counted from 0.
     pub fn new(bytes: Vec<u8>, fails: Vec<u32>) -> MemorySource
         ensures left { source_left result ≡ bytes.items }
-        ensures faults { source_faults result ≡ 0 }
-        ensures fails { source_fails result ≡ fails.items }
-        ensures calls { source_calls result ≡ 0 }
+        ensures calls { source_calls result ≡ record { fails = fails; made = 0; faults = 0 } }
     {
         MemorySource {
             bytes,
@@ -51,23 +49,23 @@ impl MemorySource {
 }
 
 impl Source for MemorySource {
-    ghost use Rattle.std.specs.Prelude.{Some, ◌≡◌, ◌==◌, is_err};
-    ghost use Rattle.std.specs.List.{list_any};
+    ghost use Rattle.std.specs.Prelude.{Some, ◌≡◌, is_err};
     ghost use Rattle.std.specs.Io.{ReadsAtMost};
     ghost use Rattle.std.specs.Io.KnownBytes.{ReadConsumes};
-    ghost use Rattle.ax_ports.specs.Ports.{HasCause, one_more};
-    ghost use Rattle.ax_ports.specs.Memory.{source_left, source_faults, source_fails, source_calls};
+    ghost use Rattle.ax_ports.specs.Ports.{HasCause};
+    ghost use Rattle.ax_ports.specs.Calls.{is_due, called};
+    ghost use Rattle.ax_ports.specs.Memory.{source_left, source_calls};
 
     ghost left = { λ s. Some (source_left s) };
 
-    ghost faults = { λ s. source_faults s };
+    ghost faults = { λ s. (source_calls s).faults };
 
     fn read(&mut self, room: &mut [u8]) -> Result<usize, Failed>
         ensures bound { ReadsAtMost result room.new }
         ensures bytes { ReadConsumes (Some (source_left self.old)) (Some (source_left self.new)) result room.new }
-        ensures cause { HasCause (source_faults self.old) (source_faults self.new) result }
-        ensures fails { is_err result ≡ list_any (λ number. number == source_calls self.old) (source_fails self.old) }
-        ensures calls { (source_calls self.new ≡ one_more (source_calls self.old)) × (source_fails self.new ≡ source_fails self.old) }
+        ensures cause { HasCause (source_calls self.old).faults (source_calls self.new).faults result }
+        ensures fails { is_err result ≡ is_due (source_calls self.old) }
+        ensures calls { source_calls self.new ≡ called (source_calls self.old) (is_due (source_calls self.old)) }
     {
         self.calls.next()?;
         let count = copy_front(&self.bytes[self.position..], room);
@@ -94,11 +92,12 @@ pub struct StdSource<R> {
 }
 
 impl<R: Read> StdSource<R> {
-    ghost use Rattle.ax_ports.specs.Memory.{std_source_faults};
+    ghost use Rattle.ax_ports.specs.Memory.{std_source_faults, std_source_reads};
 
     /// A source over the reader, without faults so far.
     pub fn new(reader: Option<R>) -> StdSource<R>
-        ensures { std_source_faults result ≡ 0 }
+        ensures faults { std_source_faults result ≡ 0 }
+        ensures reads { std_source_reads result ≡ is_some reader }
     {
         StdSource { reader, faults: 0 }
     }
@@ -106,6 +105,7 @@ impl<R: Read> StdSource<R> {
     fn fail(&mut self) -> Result<usize, Failed>
         ensures cause { HasCause self.old.faults self.new.faults result }
         ensures fails { IsErr result }
+        ensures reader { self.new.reader ≡ self.old.reader }
     {
         self.faults = self.faults.saturating_add(1);
         Err(Failed)
@@ -113,11 +113,19 @@ impl<R: Read> StdSource<R> {
 }
 
 impl<R: Read> Source for StdSource<R> {
+    ghost use Rattle.ax_ports.specs.Memory.{std_source_faults, std_source_reads};
+
     ghost left = { λ s. None };
 
-    ghost faults = { λ s. s.faults };
+    ghost faults = { λ s. std_source_faults s };
 
-    fn read(&mut self, room: &mut [u8]) -> Result<usize, Failed> {
+    fn read(&mut self, room: &mut [u8]) -> Result<usize, Failed>
+        ensures bound { ReadsAtMost result room.new }
+        ensures bytes { ReadConsumes None None result room.new }
+        ensures cause { HasCause (std_source_faults self.old) (std_source_faults self.new) result }
+        ensures none { IsFalse (std_source_reads self.old) → IsErr result }
+        ensures reads { std_source_reads self.new ≡ std_source_reads self.old }
+    {
         let Some(reader) = &mut self.reader else {
             return self.fail();
         };
