@@ -5,7 +5,7 @@ use Rattle.ax_segments.specs.Segments.{Segment}
 use Rattle.ax_tokens.specs.Tokens.{Token}
 use Rattle.ax_claims.specs.Rows.{TokenRow, AreRows, row_at, put_row, place_at}
 use Rattle.ax_claims.specs.Changes.{is_claimed, owned, claimed, stored, IsChange}
-use Rattle.ax_claims.proofs.Places.{found, unfound, get-within, get-read, put-here, rows-kept}
+use Rattle.ax_claims.proofs.RowPlaces.{found, unfound, get-within, get-read, put-here, rows-kept}
 use Rattle.ax_claims.specs.declared.refused.Refused.{Refused}
 
 pub within : (s : Segment) (rows : List TokenRow) (p : ℕ) → Some p ≡ place_at s rows → p < length rows

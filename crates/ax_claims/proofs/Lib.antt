@@ -1,3 +1,3 @@
 pub mod Starts
-pub mod Places
+pub mod RowPlaces
 pub mod Answered

@@ -15,7 +15,8 @@ use Rattle.ax_values.specs.Grammar.{Line, ◌>>=◌, when, each_in}
 use Rattle.ax_values.specs.Words.{Payload, field_cmp}
 use Rattle.ax_values.specs.Readers.{field_in}
 use Rattle.ax_values.specs.declared.value.Field.{Field}
-use Rattle.ax_values.proofs.Options.{not-true, when-true, when-some, then-some}
+use Rattle.ax_laws.proofs.Tests.{and-false, or-right, or-false, or-front, not-true, not-false}
+use Rattle.ax_values.proofs.Options.{when-true, when-some, then-some}
 use Rattle.ax_values.proofs.Lists.{each_in-push}
 use Rattle.ax_journal.specs.Arguments.{same_field, all_differ, put_in, sorted_fields, arguments_in}
 
@@ -41,15 +42,6 @@ same-alike f g x h =
 
 -- ---- tests
 
-or-false : (a : Bool) → (a || false) ≡ a
-or-false true = refl
-or-false false = refl
-
-or-swap : (a b c : Bool) → (a || (b || c)) ≡ (b || (a || c))
-or-swap true true c = refl
-or-swap true false c = refl
-or-swap false b c = refl
-
 or-twice : (a b : Bool) → (a || b) ≡ (a || (a || b))
 or-twice true b = refl
 or-twice false b = refl
@@ -58,21 +50,13 @@ or-last : (a b c : Bool) → ((a || b) || c) ≡ (a || (b || c))
 or-last true b c = refl
 or-last false b c = refl
 
-or-true : (a b : Bool) → b ≡ true → (a || b) ≡ true
-or-true true b h = refl
-or-true false b h = h
-
-and-false : (a : Bool) → (a && false) ≡ false
-and-false true = refl
-and-false false = refl
-
 -- ---- a field that is put
 
 any-put-by : (f g x : Field) (xs : List Field) (o : Ordering) → field_cmp g x ≡ o → list_any (same_field f) (put_in xs g) ≡ (same_field f g || list_any (same_field f) xs)
     → list_any (same_field f) (match_ordering o (g ∷ x ∷ xs) (g ∷ xs) (x ∷ put_in xs g)) ≡ (same_field f g || (same_field f x || list_any (same_field f) xs))
 any-put-by f g x xs Less h r = refl
 any-put-by f g x xs Equal h r = or-twice (same_field f g) (list_any (same_field f) xs) ∙ ap (λ b. same_field f g || (b || list_any (same_field f) xs)) (same-alike f g x h)
-any-put-by f g x xs Greater h r = ap (λ b. same_field f x || b) r ∙ or-swap (same_field f x) (same_field f g) (list_any (same_field f) xs)
+any-put-by f g x xs Greater h r = ap (λ b. same_field f x || b) r ∙ or-front (same_field f x) (same_field f g) (list_any (same_field f) xs)
 
 any-put : (f g : Field) (xs : List Field) → list_any (same_field f) (put_in xs g) ≡ (same_field f g || list_any (same_field f) xs)
 any-put f g [] = refl
@@ -83,7 +67,7 @@ any-puts f [] acc = refl
 any-puts f (g ∷ fs) acc =
     any-puts f fs (put_in acc g)
     ∙ ap (λ b. list_any (same_field f) fs || b) (any-put f g acc)
-    ∙ or-swap (list_any (same_field f) fs) (same_field f g) (list_any (same_field f) acc)
+    ∙ or-front (list_any (same_field f) fs) (same_field f g) (list_any (same_field f) acc)
     ∙ sym (or-last (same_field f g) (list_any (same_field f) fs) (list_any (same_field f) acc))
 
 any-sorted : (f : Field) (fs : List Field) → list_any (same_field f) (sorted_fields fs) ≡ list_any (same_field f) fs
@@ -110,7 +94,7 @@ differ-push f (g ∷ fs) =
 
 any-here : (g f : Field) (fs gs : List Field) → same_field g f ≡ true → list_any (same_field g) (fs ++ f ∷ gs) ≡ true
 any-here g f [] gs h = ap (λ b. b || list_any (same_field g) gs) h
-any-here g f (x ∷ fs) gs h = or-true (same_field g x) (list_any (same_field g) (fs ++ f ∷ gs)) (any-here g f fs gs h)
+any-here g f (x ∷ fs) gs h = or-right (same_field g x) (list_any (same_field g) (fs ++ f ∷ gs)) (any-here g f fs gs h)
 
 differ-repeat : (f : Field) (fs gs : List Field) → list_any (same_field f) fs ≡ true → all_differ (fs ++ f ∷ gs) ≡ false
 differ-repeat f [] gs h = cc
@@ -211,7 +195,7 @@ none-any f (g ∷ fs) h =
 pub any-found : (f : Field) (fs : List Field) (i : ℕ) → i < length fs → field_cmp (get_or fs i f) f ≡ Equal → list_any (same_field f) fs ≡ true
 any-found f [] i l h = absurd (omega arith)
 any-found f (g ∷ fs) zero l h = ap (λ b. b || list_any (same_field f) fs) (same-turned f g ∙ same-cmp g f Equal h)
-any-found f (g ∷ fs) (suc i) l h = or-true (same_field f g) (list_any (same_field f) fs) (any-found f fs i (omega arith) h)
+any-found f (g ∷ fs) (suc i) l h = or-right (same_field f g) (list_any (same_field f) fs) (any-found f fs i (omega arith) h)
 
 pub any-none : (f : Field) (fs : List Field) (i : ℕ) → IsPartitionPoint (λ y. field_cmp y f ≡ Less) (λ y. field_cmp y f ≡ Greater) fs i → list_any (same_field f) fs ≡ false
 any-none f fs i p = none-any f fs (λ k d l. at k d l (nat_lt k i) refl)
@@ -243,10 +227,6 @@ unread-at ws i l h = sym (ap arguments_in (parted ws i l) ∙ unread (shown (tak
 pub repeated-at : (ws : List (Bor Line)) (i : ℕ) (p : Payload) (f : Field) → i < length ws → arguments_in (shown (take i ws)) ≡ Some p → field_in (word_at ws i) ≡ Some f → false ≡ not (list_any (same_field f) p) → None ≡ arguments_in (shown ws)
 repeated-at ws i p f l h e n =
     sym (ap arguments_in (parted ws i l) ∙ repeated (shown (take i ws)) p (word_at ws i) f (shown (drop (suc i) ws)) h e (not-false (list_any (same_field f) p) (sym n)))
-  where
-    not-false : (b : Bool) → not b ≡ false → b ≡ true
-    not-false true e = refl
-    not-false false e = cc
 
 pub read-at : (ws : List (Bor Line)) (i : ℕ) (p : Payload) (f : Field) → i < length ws → arguments_in (shown (take i ws)) ≡ Some p → field_in (word_at ws i) ≡ Some f → true ≡ not (list_any (same_field f) p) → arguments_in (shown (take (i + 1) ws)) ≡ Some (put_in p f)
 read-at ws i p f l h e n =

@@ -2,7 +2,6 @@ ghost use Rattle.std.specs.Prelude.{◌≡◌, not, length, map, option_map, IsT
 ghost use Rattle.ax_journal.specs.Arguments.{same_field, put_in, arguments_in, args_in};
 ghost use Rattle.ax_values.specs.Words.{rises, field_below, field_cmp};
 ghost use Rattle.std.specs.List.{list_any};
-ghost use Rattle.std.specs.List.Sorted.{IsSearchInRange, IsBinarySearchResult};
 
 use ax_values::{Field, NoMemory, Payload};
 use std::alloc::Global;
@@ -31,7 +30,7 @@ impl Arguments {
 fn read_any_order(alloc: Global, words: &[&[u8]]) -> Result<Option<Payload>, NoMemory>
     ensures { IfOk result (λ read. read ≡ arguments_in (map (λ w. w.now) words.now)) }
 {
-    let mut fields = Vec::new(alloc);
+    let mut fields = Vec::with_capacity(alloc, words.len())?;
     for word in words {
         let Some(field) = Field::read(alloc, word)? else {
             return Ok(None);
@@ -50,18 +49,11 @@ fn put_new(fields: &mut Vec<Field>, field: Field) -> Result<bool, NoMemory>
     ensures put { IfOk result (λ is_new. IsTrue is_new → fields.new.items ≡ put_in fields.old.items field) }
     ensures rising { OnOk result (IsTrue (rises field_below fields.new.items)) }
 {
-    match place_of(fields, &field) {
+    match field.place_among(fields) {
         Ok(_) => Ok(false),
         Err(place) => {
             fields.insert(place, field)?;
             Ok(true)
         }
     }
-}
-
-fn place_of(fields: &[Field], field: &Field) -> Result<usize, usize>
-    ensures bound { IsSearchInRange result (length fields.now) }
-    ensures place { IsBinarySearchResult (λ other. field_cmp other field.now) fields.now result }
-{
-    fields.binary_search_by(|other| other.name.cmp(&field.name))
 }

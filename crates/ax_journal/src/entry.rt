@@ -4,8 +4,7 @@ ghost use Rattle.ax_journal.specs.Entries.{ended, entry_text};
 use crate::order::{Order, write_order};
 use crate::reply::Reply;
 use crate::reply_text::write_reply;
-use ax_values::{Line, ListOf, Name, NoMemory, whole_or_none};
-use std::alloc::Global;
+use ax_values::{Line, ListOf, Name, NoMemory, undo_on_error};
 
 pub type Lines = ListOf<Line>;
 
@@ -20,35 +19,36 @@ pub struct Entry {
 
 /// Adds the text of the step: a line of the actor, its order and the reply, and the lines of the report, each with its end.
 /// Where memory is wanting, nothing is added.
-pub fn write_entry(alloc: Global, entry: &Entry, out: &mut Vec<u8>) -> Result<(), NoMemory>
+pub fn write_entry(entry: &Entry, out: &mut Vec<u8>) -> Result<(), NoMemory>
     ensures ok { OnOk result (out.new.items ≡ out.old.items ++ entry_text entry.now) }
     ensures err { OnErr result (out.new.items ≡ out.old.items) }
 {
     let start = out.len();
-    let written = write_all(alloc, entry, out);
-    whole_or_none(out, start, written)
+    let written = write_all(entry, out);
+    undo_on_error(out, start, written)
 }
 
-fn write_all(alloc: Global, entry: &Entry, out: &mut Vec<u8>) -> Result<(), NoMemory>
+fn write_all(entry: &Entry, out: &mut Vec<u8>) -> Result<(), NoMemory>
     ensures ok { OnOk result (out.new.items ≡ out.old.items ++ entry_text entry.now) }
     ensures front { OnErr result (take (length out.old.items) out.new.items ≡ out.old.items) }
 {
     entry.actor.write(out)?;
     out.push(b' ')?;
-    write_order(alloc, &entry.order, out)?;
+    write_order(&entry.order, out)?;
     out.extend_from_slice(b" -> ")?;
-    write_reply(alloc, &entry.reply, out)?;
+    write_reply(&entry.reply, out)?;
     out.push(b'\n')?;
     write_lines(entry.report.parts(), out)
 }
 
-fn write_lines(lines: &[Line], out: &mut Vec<u8>) -> Result<(), NoMemory>
+/// Adds the lines, each with its end. Where memory is wanting, nothing is added.
+pub fn write_lines(lines: &[Line], out: &mut Vec<u8>) -> Result<(), NoMemory>
     ensures ok { OnOk result (out.new.items ≡ out.old.items ++ ended lines.now) }
     ensures err { OnErr result (out.new.items ≡ out.old.items) }
 {
     let start = out.len();
     let written = write_each(lines, out);
-    whole_or_none(out, start, written)
+    undo_on_error(out, start, written)
 }
 
 fn write_each(lines: &[Line], out: &mut Vec<u8>) -> Result<(), NoMemory>

@@ -71,40 +71,25 @@ pub(crate) struct Kind {
     pub(crate) shape: Shape,
 }
 
+/// Calls a macro with the names of the 28 kinds of step, which are those of their forms, in the order of their places.
+macro_rules! each_order {
+    ($then:ident $($first:tt)*) => {
+        $then!($($first)* Tick Send Append Void Snapshot Deliver Claim Extend Release Split Merge Reset Fetch Commit Take
+            Settle Evict Policy Mark Heal Advance Stop ShowRows ShowTokens ShowLetters ShowSagas ShowLog ShowSent)
+    };
+}
+
+pub(crate) use each_order;
+
+/// The forms of these names, and the three of two steps each.
+macro_rules! all_forms {
+    ($($name:ident)*) => {
+        [$(Form::$name,)* Form::Do, Form::Work, Form::Retry]
+    };
+}
+
 /// All forms, in the order of their places.
-const FORMS: [Form; 31] = [
-    Form::Tick,
-    Form::Send,
-    Form::Append,
-    Form::Void,
-    Form::Snapshot,
-    Form::Deliver,
-    Form::Claim,
-    Form::Extend,
-    Form::Release,
-    Form::Split,
-    Form::Merge,
-    Form::Reset,
-    Form::Fetch,
-    Form::Commit,
-    Form::Take,
-    Form::Settle,
-    Form::Evict,
-    Form::Policy,
-    Form::Mark,
-    Form::Heal,
-    Form::Advance,
-    Form::Stop,
-    Form::ShowRows,
-    Form::ShowTokens,
-    Form::ShowLetters,
-    Form::ShowSagas,
-    Form::ShowLog,
-    Form::ShowSent,
-    Form::Do,
-    Form::Work,
-    Form::Retry,
-];
+const FORMS: [Form; 31] = each_order!(all_forms);
 
 /// Which forms are built, by their places.
 pub const BUILT: [bool; 31] = [
@@ -198,8 +183,7 @@ fn show(word: &'static [u8], shape: Shape) -> Kind
 {
     Kind {
         shown: true,
-        word,
-        shape,
+        ..one(word, shape)
     }
 }
 

@@ -13,7 +13,7 @@ mod segment;
 mod steps;
 
 pub use arguments::Arguments;
-pub use entry::{Entry, Lines, write_entry};
+pub use entry::{Entry, Lines, write_entry, write_lines};
 pub use form::{BUILT, Form, Shape, read_form};
 pub use order::{Order, Orders, write_order};
 pub use reply::Reply;

@@ -6,9 +6,8 @@ ghost use Rattle.ax_journal.specs.Parts.{part_words, is_nothing};
 use crate::segment::write_segment;
 use ax_segments::Segment;
 use ax_values::{
-    ItemName, Line, Name, NoMemory, Payload, Seen, whole_or_none, write_number, write_small,
+    ItemName, Line, Name, NoMemory, Payload, Seen, undo_on_error, write_number, write_u32,
 };
-use std::alloc::Global;
 
 /// A part of a line: one word, the three words of what was seen, or a word for each argument.
 #[derive(Drop)]
@@ -34,26 +33,26 @@ impl Part<'_> {
         }
     }
 
-    fn write(&self, alloc: Global, out: &mut Vec<u8>) -> Result<(), NoMemory>
+    fn write(&self, out: &mut Vec<u8>) -> Result<(), NoMemory>
         ensures ok { OnOk result (out.new.items ≡ out.old.items ++ words (part_words self.now)) }
         ensures err { OnErr result (out.new.items ≡ out.old.items) }
     {
         match self {
             Part::Word(word) => out.extend_from_slice(word)?,
-            Part::Small(number) => write_small(alloc, *number, out)?,
-            Part::Number(number) => write_number(alloc, *number, out)?,
+            Part::Small(number) => write_u32(*number, out)?,
+            Part::Number(number) => write_number(*number, out)?,
             Part::Name(name) => name.write(out)?,
-            Part::Segment(segment) => write_segment(alloc, *segment, out)?,
-            Part::Item(item) => item.write(alloc, out)?,
-            Part::Seen(seen) => seen.write(alloc, out)?,
-            Part::Args(payload) => payload.write(alloc, out)?,
+            Part::Segment(segment) => write_segment(*segment, out)?,
+            Part::Item(item) => item.write(out)?,
+            Part::Seen(seen) => seen.write(out)?,
+            Part::Args(payload) => payload.write(out)?,
             Part::Line(line) => out.extend_from_slice(line.parts())?,
         }
         Ok(())
     }
 
     #[tactic(auto, using(crate::proofs::LineLaws::spaced_words))]
-    fn write_spaced(&self, alloc: Global, out: &mut Vec<u8>) -> Result<(), NoMemory>
+    fn write_spaced(&self, out: &mut Vec<u8>) -> Result<(), NoMemory>
         ensures ok { OnOk result (out.new.items ≡ out.old.items ++ spaced (part_words self.now)) }
         ensures front { OnErr result (take (length out.old.items) out.new.items ≡ out.old.items) }
     {
@@ -61,30 +60,26 @@ impl Part<'_> {
             return Ok(());
         }
         out.push(b' ')?;
-        self.write(alloc, out)
+        self.write(out)
     }
 }
 
 /// Adds the parts, a space in front of each word. Where memory is wanting, nothing is added.
-pub(crate) fn write_parts(
-    alloc: Global,
-    parts: &[Part<'_>],
-    out: &mut Vec<u8>,
-) -> Result<(), NoMemory>
+pub(crate) fn write_parts(parts: &[Part<'_>], out: &mut Vec<u8>) -> Result<(), NoMemory>
     ensures ok { OnOk result (out.new.items ≡ out.old.items ++ spaced (flat_map part_words parts.now)) }
     ensures err { OnErr result (out.new.items ≡ out.old.items) }
 {
     let start = out.len();
-    let written = write_each(alloc, parts, out);
-    whole_or_none(out, start, written)
+    let written = write_each(parts, out);
+    undo_on_error(out, start, written)
 }
 
-fn write_each(alloc: Global, parts: &[Part<'_>], out: &mut Vec<u8>) -> Result<(), NoMemory>
+fn write_each(parts: &[Part<'_>], out: &mut Vec<u8>) -> Result<(), NoMemory>
     ensures ok { OnOk result (out.new.items ≡ out.old.items ++ spaced (flat_map part_words parts.now)) }
     ensures front { OnErr result (take (length out.old.items) out.new.items ≡ out.old.items) }
 {
     for part in parts {
-        part.write_spaced(alloc, out)?;
+        part.write_spaced(out)?;
     }
     Ok(())
 }

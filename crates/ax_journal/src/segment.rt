@@ -2,8 +2,7 @@ ghost use Rattle.std.specs.Prelude.{◌≡◌, ◌++◌, length, take, Some, IfS
 ghost use Rattle.ax_journal.specs.Segment.{segment_text, segment_in};
 
 use ax_segments::Segment;
-use ax_values::{NoMemory, cut_at, read_number_to, whole_or_none, write_small};
-use std::alloc::Global;
+use ax_values::{NoMemory, cut_at, read_number_to, undo_on_error, write_u32};
 
 /// The segment that the text `id/mask` is: the mask plus 1 is a power of two, the mask is at most 65,535, and the id at
 /// most the mask. None comes exactly outside this.
@@ -25,22 +24,22 @@ pub fn read_segment(text: &[u8]) -> Option<Segment>
 }
 
 /// Adds `id/mask`. Where memory is wanting, nothing is added.
-pub fn write_segment(alloc: Global, segment: Segment, out: &mut Vec<u8>) -> Result<(), NoMemory>
+pub fn write_segment(segment: Segment, out: &mut Vec<u8>) -> Result<(), NoMemory>
     ensures ok { OnOk result (out.new.items ≡ out.old.items ++ segment_text segment) }
     ensures err { OnErr result (out.new.items ≡ out.old.items) }
     ensures again { OnOk result (segment_in (segment_text segment) ≡ Some segment) }
 {
     let start = out.len();
-    let written = write_parts(alloc, segment, out);
-    whole_or_none(out, start, written)
+    let written = write_parts(segment, out);
+    undo_on_error(out, start, written)
 }
 
-fn write_parts(alloc: Global, segment: Segment, out: &mut Vec<u8>) -> Result<(), NoMemory>
+fn write_parts(segment: Segment, out: &mut Vec<u8>) -> Result<(), NoMemory>
     ensures ok { OnOk result (out.new.items ≡ out.old.items ++ segment_text segment) }
     ensures front { OnErr result (take (length out.old.items) out.new.items ≡ out.old.items) }
     ensures again { OnOk result (segment_in (segment_text segment) ≡ Some segment) }
 {
-    write_small(alloc, segment.id, out)?;
+    write_u32(segment.id, out)?;
     out.push(b'/')?;
-    write_small(alloc, segment.mask, out)
+    write_u32(segment.mask, out)
 }

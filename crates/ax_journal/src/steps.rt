@@ -6,7 +6,7 @@ use crate::fields::{Fields, read_fields};
 use crate::form::Form;
 use crate::order::{Order, Orders};
 use ax_segments::Segment;
-use ax_values::{Duplicate, ItemName, ListOf, Name, NoMemory, Payload};
+use ax_values::{Duplicate, ItemName, Name, NoMemory, Payload};
 use std::alloc::Global;
 
 /// The step that the words are, as fields in a line of the form. None comes exactly where they have another shape than the
@@ -250,24 +250,24 @@ fn item_step(processor: Name, item: ItemName, form: Form) -> Option<Order>
 fn one(alloc: Global, order: Order) -> Result<Option<Orders>, NoMemory>
     ensures { IfOk result (λ orders. orders ≡ Some (order ∷ [])) }
 {
-    let mut orders = ListOf::new(alloc);
+    let mut orders = Vec::with_capacity(alloc, 1)?;
     orders.push(order)?;
-    Ok(Some(orders))
+    Ok(Some(Orders::of(orders)))
 }
 
 fn two(alloc: Global, first: Order, second: Order) -> Result<Option<Orders>, NoMemory>
     ensures { IfOk result (λ orders. orders ≡ Some (first ∷ second ∷ [])) }
 {
-    let mut orders = ListOf::new(alloc);
+    let mut orders = Vec::with_capacity(alloc, 2)?;
     orders.push(first)?;
     orders.push(second)?;
-    Ok(Some(orders))
+    Ok(Some(Orders::of(orders)))
 }
 
 impl Duplicate for Order {
     #[tactic(auto, using(crate::proofs::OrderLaws::step_again))]
     fn copy(&self, alloc: Global) -> Result<Order, NoMemory> {
-        let fields = self.copy_fields(alloc)?;
+        let fields = self.fields().own(alloc)?;
         Ok(fields.step(self.form()).unwrap())
     }
 }

@@ -12,7 +12,7 @@ use Rattle.std.specs.Prelude.{◌&&◌}
 use Rattle.std.specs.List.{list_all}
 use Rattle.ax_log.specs.Puts.{HasPlace, CanPutAll, puts_at}
 use Rattle.ax_log.specs.Answers.{AreOf, aggregate_of, number_of, IsKeptFor, TakesKept, TakesEnd, HasCells, first_void, GoesOn}
-use Rattle.ax_log.proofs.Puts.{put, IsOpen, is_open, grown-put, get-other, take-next, open-front}
+use Rattle.ax_log.proofs.CellPutLaws.{put, IsOpen, is_open, grown-put, get-other, take-next, open-front}
 use Rattle.ax_log.proofs.Order.{IsNext, length-next, ordered-event, can-more}
 
 -- what an append fills

@@ -13,7 +13,7 @@ use Rattle.ax_log.specs.Log.{Stored, events_from, is_of, stream_of, length_of, o
 use Rattle.ax_log.specs.Order.{AreNumbered, IsOrdered}
 use Rattle.ax_log.specs.Puts.{CanPut}
 use Rattle.ax_log.specs.Index.{has_event_of, IsLast, last_of, IsIndexed, last_after, before_of}
-use Rattle.ax_log.proofs.Puts.{put, IsOpen, is_open, place-open, put_at-put, grown-put, get-same, get-other, take-before, take-past, open-next, open-take, Misses, filter-other}
+use Rattle.ax_log.proofs.CellPutLaws.{put, IsOpen, is_open, place-open, put_at-put, grown-put, get-same, get-other, take-before, take-past, open-next, open-take, Misses, filter-other}
 
 -- ---- events of a test
 

@@ -1,7 +1,7 @@
-pub mod Puts
+pub mod CellPutLaws
 pub mod Order
 pub mod Index
 pub mod Heads
 pub mod Events
 pub mod Append
-pub mod Made
+pub mod CellsMade

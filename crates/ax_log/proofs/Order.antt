@@ -13,7 +13,7 @@ use Rattle.ax_values.specs.declared.cell.Cell.{Cell}
 use Rattle.ax_log.specs.Log.{Stored, is_of, stream_of, length_of, is_reserved, option_is}
 use Rattle.ax_log.specs.Order.{AreNumbered, IsReservedRight, IsOrdered, max_cells, is_small, has_few_fields}
 use Rattle.ax_log.specs.Puts.{HasPlace, CanPut, CanPutAll, puts_at}
-use Rattle.ax_log.proofs.Puts.{put, IsOpen, place-open, put_at-put, length-put, grown-put, get-same, get-other, take-before, take-past, open-take, Misses, filter-other, length-own, numbered-own}
+use Rattle.ax_log.proofs.CellPutLaws.{put, IsOpen, place-open, put_at-put, length-put, grown-put, get-same, get-other, take-before, take-past, open-take, Misses, filter-other, length-own, numbered-own}
 use Rattle.ax_log.specs.declared.put.CellPut.{CellPut}
 
 -- ---- one put

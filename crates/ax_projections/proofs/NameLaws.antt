@@ -147,7 +147,7 @@ any-firsts a (n ∷ ns) = at (same_name a n) refl (any-firsts a ns)
     at true e h = refl
     at false e h = any-other a n (first_names ns) e ∙ h
 
-length-without : (n : Name) (ms : List Name) → length (without n ms) ≤ length ms
+pub length-without : (n : Name) (ms : List Name) → length (without n ms) ≤ length ms
 length-without n [] = omega arith
 length-without n (m ∷ ms) = at (same_name n m) (length-without n ms)
   where

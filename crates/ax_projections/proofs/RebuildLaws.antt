@@ -140,7 +140,7 @@ unfolding new_items
 items-append chain cells c =
     ap (flat_map (placed_items chain)) (events-append 0 cells (c ∷ [])) ∙ flat_map-append (placed_items chain) (events cells) (events_from (0 + length cells) (c ∷ []))
 
-plain-placed : (i : ℕ) (xs : List Item) → plain_items (map (placed i) xs) ≡ xs
+pub plain-placed : (i : ℕ) (xs : List Item) → plain_items (map (placed i) xs) ≡ xs
 plain-placed i [] = refl
 plain-placed i (x ∷ xs) = ap (λ ys. x ∷ ys) (plain-placed i xs)
 

@@ -2,7 +2,7 @@
 use Rattle.std.specs.Prelude.{◌++◌, Option, Some, None, option_map, codes, if◌then◌else◌}
 use Rattle.std.specs.Fmt.{decimal}
 use Rattle.std.specs.Str.{bytes_eq}
-use Rattle.ax_values.specs.Grammar.{Line, Cut, cut_at, name_in, small_in}
+use Rattle.ax_values.specs.Grammar.{Line, Cut, cut_at, name_in, u32_in}
 use Rattle.ax_rules.specs.declared.cause.Cause.{Cause}
 use Rattle.ax_rules.specs.declared.why.Why.{Why}
 
@@ -21,7 +21,7 @@ why_word w = if bytes_eq w (codes "marked") then Some Why.Marked
 -- the cause that a word and a value behind it are
 abbrev pub why_pair : Cut → Option Why
 why_pair t = if bytes_eq t.before (codes "missing") then option_map (λ name. Why.Failed (Cause.Missing name)) (name_in t.after)
-    else (if bytes_eq t.before (codes "guard") then option_map (λ g. Why.Failed (Cause.Guard g)) (small_in t.after) else None)
+    else (if bytes_eq t.before (codes "guard") then option_map (λ g. Why.Failed (Cause.Guard g)) (u32_in t.after) else None)
 
 abbrev pub why_by : Line → Option Cut → Option Why
 why_by w None = why_word w

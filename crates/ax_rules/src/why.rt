@@ -2,7 +2,7 @@ ghost use Rattle.std.specs.Prelude.{◌≡◌, ◌∷◌, ◌++◌, length, take
 ghost use Rattle.ax_rules.specs.Why.{why_text, why_in, why_word, why_pair};
 
 use crate::Cause;
-use ax_values::{Duplicate, Name, NoMemory, cut_at, read_small, whole_or_none, write_small};
+use ax_values::{Duplicate, Name, NoMemory, cut_at, read_u32, undo_on_error, write_u32};
 use std::alloc::Global;
 
 /// Why an item is parked or dropped.
@@ -30,18 +30,18 @@ impl Why {
     }
 
     /// Adds the text of the why. Where memory is wanting, nothing is added.
-    pub fn write(&self, alloc: Global, out: &mut Vec<u8>) -> Result<(), NoMemory>
+    pub fn write(&self, out: &mut Vec<u8>) -> Result<(), NoMemory>
         ensures ok { OnOk result (out.new.items ≡ out.old.items ++ why_text self.now) }
         ensures err { OnErr result (out.new.items ≡ out.old.items) }
         ensures again { OnOk result (why_in (why_text self.now) ≡ Some self.now) }
     {
         let start = out.len();
-        let written = self.write_parts(alloc, out);
-        whole_or_none(out, start, written)
+        let written = self.write_parts(out);
+        undo_on_error(out, start, written)
     }
 
     #[tactic(auto, unfolding(ax_values::specs::Grammar::IsReadBack))]
-    fn write_parts(&self, alloc: Global, out: &mut Vec<u8>) -> Result<(), NoMemory>
+    fn write_parts(&self, out: &mut Vec<u8>) -> Result<(), NoMemory>
         ensures ok { OnOk result (out.new.items ≡ out.old.items ++ why_text self.now) }
         ensures front { OnErr result (take (length out.old.items) out.new.items ≡ out.old.items) }
         ensures again { OnOk result (why_in (why_text self.now) ≡ Some self.now) }
@@ -56,7 +56,7 @@ impl Why {
             }
             Why::Failed(Cause::Guard(number)) => {
                 out.extend_from_slice(b"guard ")?;
-                write_small(alloc, *number, out)?;
+                write_u32(*number, out)?;
             }
         }
         Ok(())
@@ -85,7 +85,7 @@ fn read_pair(alloc: Global, word: &[u8], value: &[u8]) -> Result<Option<Why>, No
     if word == b"missing".as_slice() {
         Ok(Name::read(alloc, value)?.map(|name| Why::Failed(Cause::Missing(name))))
     } else if word == b"guard".as_slice() {
-        Ok(read_small(value).map(|number| Why::Failed(Cause::Guard(number))))
+        Ok(read_u32(value).map(|number| Why::Failed(Cause::Guard(number))))
     } else {
         Ok(None)
     }

@@ -4,6 +4,7 @@ use Rattle.std.proofs.Math.Nat.{mod-lt}
 use Rattle.std.proofs.lemmas.Bool.Decides.{nat_tests}
 use Rattle.std.proofs.lemmas.Nat.{div-add-mod', mod-mul-add}
 use borrow.Author.Tests.{eqb-true, ltb-true, ltb-false, eqb-false, lt-ltb, le-ltb}
+use Rattle.ax_laws.proofs.Tests.{both, and-swap, or-swap}
 use Rattle.ax_segments.specs.Segments.{Segment, IsSegment, AreHalves, matches, lower_half, upper_half, flipped, partner, same_segment, max_mask}
 use Rattle.ax_segments.proofs.Powers.{even, halved, doubled, room}
 
@@ -16,7 +17,7 @@ within m r (suc zero) low one = omega arith
 within m r (suc (suc b)) low one = absurd (omega arith)
 
 -- the remainder by a doubled divisor has one bit more
-mod-double : (h m : ℕ) → h % (2 * m + 1 + 1) ≡ h / (m + 1) % 2 * (m + 1) + h % (m + 1)
+pub mod-double : (h m : ℕ) → h % (2 * m + 1 + 1) ≡ h / (m + 1) % 2 * (m + 1) + h % (m + 1)
 mod-double h m =
     let q = h / (m + 1) in
     let r = h % (m + 1) in
@@ -42,18 +43,6 @@ at-hash s i h =
 
 pub are_halves : (s : Segment) → s.id ≤ s.mask → AreHalves s (lower_half s) (upper_half s)
 are_halves s i = record { each = λ h. (at-hash s i h).0; once = λ h. (at-hash s i h).1 }
-
-or-swap : (a b : Bool) → (a || b) ≡ (b || a)
-or-swap true true = refl
-or-swap true false = refl
-or-swap false true = refl
-or-swap false false = refl
-
-and-swap : (a b : Bool) → (a && b) ≡ (b && a)
-and-swap true true = refl
-and-swap true false = refl
-and-swap false true = refl
-and-swap false false = refl
 
 swapped : (s t u : Segment) → AreHalves s t u → AreHalves s u t
 swapped s t u a = record {
@@ -114,41 +103,39 @@ pub record AreParts (whole s t : Segment) : Type 0 where
   pub is : IsSegment whole
   pub halves : AreHalves whole s t
 
-both : (a b : Bool) → (a && b) ≡ true → (a ≡ true) × (b ≡ true)
-both true b h = (refl, h)
-both false b h = cc
-
 part_of : ℕ → ℕ → Segment
 part_of n m = record { id = n; mask = m }
+
+-- halves by equal numbers
+moved : (h w a b k n c d m : ℕ) → w ≡ n → a ≡ c → b ≡ d → k ≡ m → AreHalves (part_of w h) (part_of a k) (part_of b k) → AreHalves (part_of n h) (part_of c m) (part_of d m)
+moved h w a b k n c d m e f g l x =
+    subst (λ n. AreHalves (part_of n h) (part_of c m) (part_of d m)) e
+    (subst (λ c. AreHalves (part_of w h) (part_of c m) (part_of d m)) f
+    (subst (λ d. AreHalves (part_of w h) (part_of a m) (part_of d m)) g (subst (λ m. AreHalves (part_of w h) (part_of a m) (part_of b m)) l x)))
 
 parts : (i j m : ℕ) → IsSegment (part_of i m) → 0 < m → j ≡ flipped (part_of i m) → (b : Bool) → nat_lt i ((m + 1) / 2) ≡ b → AreParts (part_of (min i j) (m / 2)) (part_of i m) (part_of j m)
 unfolding part_of
 parts i j m is low e true g =
     let half = even m is.power low in
     let below = ltb-true i ((m + 1) / 2) g in
-    let other : j ≡ i + (m / 2 + 1) = (let f = flipped-low (part_of i m) below in omega arith) in
-    let first : min i j ≡ i = omega arith in
+    let other : i + (m / 2 + 1) ≡ j = (let f = flipped-low (part_of i m) below in omega arith) in
+    let first : i ≡ min i j = omega arith in
     let most = is.mask in
-    let halves = are_halves (part_of i (m / 2)) (omega arith) in
     record {
       is = record { power = halved m is.power low; mask = omega arith; id = omega arith };
-      halves = subst (λ n. AreHalves (part_of n (m / 2)) (part_of i m) (part_of j m)) (sym first)
-          (subst (λ n. AreHalves (part_of i (m / 2)) (part_of i m) (part_of n m)) (sym other)
-          (subst (λ n. AreHalves (part_of i (m / 2)) (part_of i n) (part_of (i + (m / 2 + 1)) n)) (sym half) halves));
+      halves = moved (m / 2) i i (i + (m / 2 + 1)) (2 * (m / 2) + 1) (min i j) i j m first refl other (sym half) (are_halves (part_of i (m / 2)) (omega arith));
     }
 parts i j m is low e false g =
     let half = even m is.power low in
     let above = ltb-false i ((m + 1) / 2) g in
-    let other : i ≡ j + (m / 2 + 1) = (let f = flipped-high (part_of i m) above in omega arith) in
-    let first : min i j ≡ j = omega arith in
+    let other : j + (m / 2 + 1) ≡ i = (let f = flipped-high (part_of i m) above in omega arith) in
+    let first : j ≡ min i j = omega arith in
     let most = is.mask in
     let within = is.id in
     let halves = swapped (part_of j (m / 2)) (part_of j (2 * (m / 2) + 1)) (part_of (j + (m / 2 + 1)) (2 * (m / 2) + 1)) (are_halves (part_of j (m / 2)) (omega arith)) in
     record {
       is = record { power = halved m is.power low; mask = omega arith; id = omega arith };
-      halves = subst (λ n. AreHalves (part_of n (m / 2)) (part_of i m) (part_of j m)) (sym first)
-          (subst (λ n. AreHalves (part_of j (m / 2)) (part_of n m) (part_of j m)) (sym other)
-          (subst (λ n. AreHalves (part_of j (m / 2)) (part_of (j + (m / 2 + 1)) n) (part_of j n)) (sym half) halves));
+      halves = moved (m / 2) j (j + (m / 2 + 1)) j (2 * (m / 2) + 1) (min i j) i j m first other refl (sym half) halves;
     }
 
 -- a segment and its partner are halves of one

@@ -3,8 +3,8 @@ use Rattle.std.specs.Prelude.{◌≡◌, ℕ, zero, suc, ◌+◌, ◌*◌, ◌/�
 use Rattle.std.proofs.Common.{refl, ap, sym, ◌∙◌, arith}
 use Rattle.std.proofs.Math.Nat.{mod-lt, div-div-eq-div-mul}
 use Rattle.std.proofs.lemmas.Bool.Decides.{nat_tests}
-use Rattle.std.proofs.lemmas.Nat.{div-add-mod', mod-mul-add}
 use Rattle.ax_segments.specs.Segments.{Segment, matches, is_upper, half_mask, lower_half, upper_half}
+use Rattle.ax_segments.proofs.Halves.{mod-double}
 use Rattle.ax_tokens.specs.Tokens.{Token, plain, merged, replay, half}
 
 -- the half that serves a hash whose bits above the mask are these
@@ -26,22 +26,6 @@ half-by (merged l u) mask h =
 half-by (replay r c) mask h = refl
 
 -- ---- which half of a segment matches
-
-regroup : (h m q r p b : ℕ) → q * (m + 1) + r ≡ h → p * 2 + b ≡ q → h ≡ p * (2 * m + 1 + 1) + (b * (m + 1) + r)
-regroup h m q r p b e f = let g = ap (λ n. n * (m + 1)) f in omega (arith, e, g)
-
-within : (m r b : ℕ) → r < m + 1 → b < 2 → b * (m + 1) + r < 2 * m + 1 + 1
-within m r zero low one = omega arith
-within m r (suc zero) low one = omega arith
-within m r (suc (suc b)) low one = absurd (omega arith)
-
--- the remainder by a doubled divisor has one bit more
-mod-double : (h m : ℕ) → h % (half_mask m + 1) ≡ h / (m + 1) % 2 * (m + 1) + h % (m + 1)
-mod-double h m =
-    let q = h / (m + 1) in
-    let r = h % (m + 1) in
-    let is = regroup h m q r (q / 2) (q % 2) (div-add-mod' h (m + 1)) (div-add-mod' q 2) in
-    ap (λ n. n % (2 * m + 1 + 1)) is ∙ mod-mul-add (q / 2) (2 * m + 1 + 1) (q % 2 * (m + 1) + r) (within m r (q % 2) (mod-lt h (omega arith)) (mod-lt q (omega arith)))
 
 -- what the next bit b and the low bits r of a hash say of the halves of a segment
 bits-lower : (m id r b : ℕ) → id ≤ m → r < m + 1 → b < 2 → (b * (m + 1) + r == id) ≡ ((r == id) && (b == 0))

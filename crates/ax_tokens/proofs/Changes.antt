@@ -1,32 +1,19 @@
 -- What the changes make of the sets of a token.
-use Rattle.std.specs.Prelude.{◌≡◌, ℕ, ◌+◌, ◌≤◌, ◌==◌, ◌%◌, Bool, true, false, not, ◌&&◌, ◌||◌, List, max, nat_lt, nat_le, if◌then◌else◌}
+use Rattle.std.specs.Prelude.{◌≡◌, ℕ, ◌+◌, ◌≤◌, ◌==◌, ◌%◌, Bool, true, false, not, ◌&&◌, ◌||◌, List, nat_le, if◌then◌else◌}
 use Rattle.std.proofs.Common.{refl, ap, sym, ◌∙◌, arith}
 use Rattle.std.proofs.Math.Nat.{mod-eq_of_lt}
 use Rattle.std.proofs.lemmas.Bool.Decides.{nat_tests}
 use lib.Pointwise.{bytes_decides}
-use borrow.Author.Tests.{ltb-true, ltb-false, eqb-true, le-ltb}
+use borrow.Author.Tests.{eqb-true}
 use Rattle.ax_values.specs.declared.cell.Cell.{Cell}
-use Rattle.ax_values.proofs.Options.{both, and-true, not-true}
-use Rattle.ax_log.specs.Log.{is_settled}
+use Rattle.ax_laws.proofs.Tests.{both, and-true, either, or-left, or-right, or-false, or-swap, not-true}
 use Rattle.ax_segments.specs.Segments.{Segment, matches, is_upper, half_mask, lower_half, upper_half, max_mask}
-use Rattle.ax_tokens.specs.Plain.{Plain, has, contains, settles, advanced_plain, includes, same_plain}
+use Rattle.ax_tokens.specs.Plain.{Plain, has, settles, includes, same_plain}
 use Rattle.ax_tokens.specs.Tokens.{Token, plain, merged, replay, half, covers, covers_here, replays, replays_here, meets, advanced, ever_covered, joins, joined, caught_up, collapsed, is_collapsed, masks_fit, IsMet}
-use Rattle.ax_tokens.proofs.Sets.{has-plain_of, has-plain_of-beyond}
-use Rattle.ax_tokens.proofs.Gaps.{has-union, included-at}
+use Rattle.ax_tokens.proofs.Gaps.{has-union, has-advanced, included-at}
 use Rattle.ax_tokens.proofs.Bits.{matches-lower, matches-upper}
 
 -- ---- an advance
-
-has-advanced : (cells : List Cell) (b : ℕ) (p : Plain) (i : ℕ) → has (advanced_plain cells b p) i ≡ (has p i || settles cells b i)
-has-advanced cells b p i = at (nat_lt i (max p.next b)) refl
-  where
-    at : (c : Bool) → nat_lt i (max p.next b) ≡ c → has (advanced_plain cells b p) i ≡ (has p i || settles cells b i)
-    at true e = has-plain_of (λ j. has p j || settles cells b j) (max p.next b) i (ltb-true i (max p.next b) e)
-    at false e =
-        let le : max p.next b ≤ i = ltb-false i (max p.next b) e in
-        let first : has p i ≡ false = ap (λ c. c && not (contains p.gaps i)) (le-ltb i p.next (omega arith)) in
-        let second : settles cells b i ≡ false = ap (λ c. c && is_settled cells i) (le-ltb i b (omega arith)) in
-        has-plain_of-beyond (λ j. has p j || settles cells b j) (max p.next b) i le ∙ sym (ap (λ c. c || settles cells b i) first ∙ second)
 
 pub covers-advanced : (cells : List Cell) (b : ℕ) (t : Token) (mask h i : ℕ) → covers (advanced cells b t) mask h i ≡ (covers t mask h i || settles cells b i)
 covers-advanced cells b (plain p) mask h i = has-advanced cells b p i
@@ -154,16 +141,6 @@ own t s i low fits h =
       met = h;
     }
 
-or-false : (a : Bool) → a ≡ true → (a || false) ≡ true
-or-false true h = refl
-or-false false h = h
-
-or-swapped : (a b : Bool) → (a || b) ≡ true → (b || a) ≡ true
-or-swapped true true h = refl
-or-swapped true false h = refl
-or-swapped false true h = refl
-or-swapped false false h = h
-
 meets-lower : (l u : Token) (mask h i : ℕ) → is_upper mask h ≡ false → meets (merged l u) mask h i ≡ meets l (half_mask mask) h i
 unfolding meets_here
 meets-lower l u mask h i e = ap (λ b. meets_here (if b then half u (half_mask mask) h else half l (half_mask mask) h) i) e
@@ -182,42 +159,26 @@ from_upper l u s i low m =
     let k = both (matches s m.hash) (is_upper s.mask m.hash) (sym (matches-upper s m.hash low) ∙ m.matching) in
     record { hash = m.hash; small = m.small; matching = k.0; met = meets-upper l u s.mask m.hash i k.1 ∙ m.met }
 
-either : {P : Type 0} (a b : Bool) → (a || b) ≡ true → (a ≡ true → P) → (b ≡ true → P) → P
-either true b h f g = f refl
-either false b h f g = g h
-
 pub to_met : (t : Token) (s : Segment) (i : ℕ) → s.id ≤ s.mask → masks_fit s.mask t ≡ true → has (ever_covered t) i ≡ true → IsMet t s i
-to_met (plain p) s i low fits h = own (plain p) s i low (fits-le s.mask fits) (or-false (has p i) h)
+to_met (plain p) s i low fits h = own (plain p) s i low (fits-le s.mask fits) (or-left (has p i) false h)
 to_met (merged l u) s i low fits h =
     let f = both (masks_fit (half_mask s.mask) l) (masks_fit (half_mask s.mask) u) fits in
     either (has (ever_covered l) i) (has (ever_covered u) i) (sym (has-union (ever_covered l) (ever_covered u) i) ∙ h)
     (λ k. from_lower l u s i low (to_met l (lower_half s) i (omega arith) f.0 k))
     (λ k. from_upper l u s i low (to_met u (upper_half s) i (omega arith) f.1 k))
 to_met (replay r c) s i low fits h =
-    own (replay r c) s i low (fits-le s.mask fits) (or-swapped (has r i) (has c i) (sym (has-union r c i) ∙ h))
-
-or-first : (a b : Bool) → a ≡ true → (a || b) ≡ true
-or-first true b h = refl
-or-first false b h = absurd (cc)
-
-or-second : (a b : Bool) → b ≡ true → (a || b) ≡ true
-or-second true b h = refl
-or-second false b h = h
-
-without-false : (a : Bool) → (a || false) ≡ true → a ≡ true
-without-false true h = refl
-without-false false h = h
+    own (replay r c) s i low (fits-le s.mask fits) (or-swap (has c i) (has r i) ∙ (sym (has-union r c i) ∙ h))
 
 pub met_ever : (t : Token) (s : Segment) (i h : ℕ) → s.id ≤ s.mask → matches s h ≡ true → meets t s.mask h i ≡ true → has (ever_covered t) i ≡ true
-met_ever (plain p) s i h low m k = without-false (has p i) k
+met_ever (plain p) s i h low m k = sym (or-false (has p i)) ∙ k
 met_ever (merged l u) s i h low m k =
     has-union (ever_covered l) (ever_covered u) i
     ∙ at (is_upper s.mask h) refl
-    (λ e. or-first (has (ever_covered l) i) (has (ever_covered u) i) (met_ever l (lower_half s) i h (omega arith) (matches-lower s h low ∙ and-true (matches s h) (not (is_upper s.mask h)) m (ap not e)) (sym (meets-lower l u s.mask h i e) ∙ k)))
-    (λ e. or-second (has (ever_covered l) i) (has (ever_covered u) i) (met_ever u (upper_half s) i h (omega arith) (matches-upper s h low ∙ and-true (matches s h) (is_upper s.mask h) m e) (sym (meets-upper l u s.mask h i e) ∙ k)))
+    (λ e. or-left (has (ever_covered l) i) (has (ever_covered u) i) (met_ever l (lower_half s) i h (omega arith) (matches-lower s h low ∙ and-true (matches s h) (not (is_upper s.mask h)) m (ap not e)) (sym (meets-lower l u s.mask h i e) ∙ k)))
+    (λ e. or-right (has (ever_covered l) i) (has (ever_covered u) i) (met_ever u (upper_half s) i h (omega arith) (matches-upper s h low ∙ and-true (matches s h) (is_upper s.mask h) m e) (sym (meets-upper l u s.mask h i e) ∙ k)))
   where
     at : (b : Bool) → is_upper s.mask h ≡ b → (is_upper s.mask h ≡ false → (has (ever_covered l) i || has (ever_covered u) i) ≡ true) → (is_upper s.mask h ≡ true → (has (ever_covered l) i || has (ever_covered u) i) ≡ true) →
         (has (ever_covered l) i || has (ever_covered u) i) ≡ true
     at true e f g = g e
     at false e f g = f e
-met_ever (replay r c) s i h low m k = has-union r c i ∙ or-swapped (has c i) (has r i) k
+met_ever (replay r c) s i h low m k = has-union r c i ∙ (or-swap (has r i) (has c i) ∙ k)

@@ -11,41 +11,17 @@ use Rattle.std.proofs.lemmas.List.Elements.{filter-append}
 use borrow.Author.Tests.{ltb-true, ltb-false, eqb-true, lt-ltb, le-ltb}
 use Rattle.ax_values.specs.Words.{rises}
 use Rattle.ax_values.specs.declared.cell.Cell.{Cell}
-use Rattle.ax_values.proofs.Options.{and-true}
+use Rattle.ax_laws.proofs.Tests.{and-left, and-right, and-true, and-false, or-swap, not-true, apart, same-bool}
+use Rattle.ax_laws.proofs.Lists.{all-filter}
 use Rattle.ax_log.specs.Log.{is_settled}
-use Rattle.ax_tokens.specs.Plain.{Plain, is_canonical_plain, has, contains, numbers_from, below, end_of, plain_of, union, includes, settles}
+use Rattle.ax_tokens.specs.Plain.{Plain, is_canonical_plain, has, contains, numbers_from, below, end_of, plain_of, union, advanced_plain, includes, settles}
 use Rattle.ax_tokens.specs.Outside.{from, begins_with}
-use Rattle.ax_tokens.proofs.Sets.{and-left, and-right, above-first, tail-rises, rises-cons, rises-numbers, gaps-below, contains-filter-below, has-plain_of, has-plain_of-beyond, plain_of-canonical}
-
--- ---- tests
-
-pub same-bool : (a b : Bool) → (a ≡ true → b ≡ true) → (b ≡ true → a ≡ true) → a ≡ b
-same-bool true b f g = sym (f refl)
-same-bool false true f g = g refl
-same-bool false false f g = refl
-
-or-swap : (a b : Bool) → (a || b) ≡ (b || a)
-or-swap true true = refl
-or-swap true false = refl
-or-swap false true = refl
-or-swap false false = refl
-
-and-false : (a : Bool) → (a && false) ≡ false
-and-false true = refl
-and-false false = refl
+use Rattle.ax_tokens.proofs.Sets.{above-first, tail-rises, rises-cons, rises-numbers, gaps-below, contains-filter-below, has-plain_of, has-plain_of-beyond, plain_of-canonical}
 
 not-and : (c m : Bool) → not (c && not m) ≡ (not c || m)
 not-and true true = refl
 not-and true false = refl
 not-and false m = refl
-
-not-true-is : (a : Bool) → not a ≡ true → a ≡ false
-not-true-is true h = absurd (cc)
-not-true-is false h = refl
-
-apart : (a : Bool) → a ≡ true → a ≡ false → ⊥
-apart true h k = cc
-apart false h k = cc
 
 -- ---- lists
 
@@ -72,14 +48,6 @@ rises-filter f (x ∷ xs) r = at (f x) (rises-filter f xs (tail-rises x xs r))
 
     at : (b : Bool) → rises nat_lt (filter f xs) ≡ true → rises nat_lt (if b then x ∷ filter f xs else filter f xs) ≡ true
     at true ih = rises-cons x _ above ih
-    at false ih = ih
-
-all-filter : (t f : ℕ → Bool) (xs : List ℕ) → list_all t xs ≡ true → list_all t (filter f xs) ≡ true
-all-filter t f [] h = refl
-all-filter t f (x ∷ xs) h = at (f x) (all-filter t f xs (and-right _ _ h))
-  where
-    at : (b : Bool) → list_all t (filter f xs) ≡ true → list_all t (if b then x ∷ filter f xs else filter f xs) ≡ true
-    at true ih = and-true (t x) _ (and-left _ _ h) ih
     at false ih = ih
 
 -- a test of all parts, by what the list contains
@@ -150,7 +118,7 @@ canonical-plain_of test n =
             let lt : i < end_of test n = ltb-true i (end_of test n) (and-left _ _ within) in
             let ge : end_of test n ≤ suc i = ltb-false (suc i) (end_of test n) d in
             let is : end_of test n ≡ suc i = omega arith in
-            absurd (apart (test i) (end_of-passes test n i is) (not-true-is (test i) (and-right _ _ within)))
+            absurd (apart (test i) (end_of-passes test n i is) (not-true (test i) (and-right _ _ within)))
 
 -- ---- a plain token with more
 
@@ -185,6 +153,17 @@ has-union p q i = at (nat_lt i (max p.next q.next)) refl
         let first : has p i ≡ false = none p.next p.gaps (omega arith) in
         let second : has q i ≡ false = none q.next q.gaps (omega arith) in
         has-plain_of-beyond (λ j. has p j || has q j) (max p.next q.next) i le ∙ sym (ap (λ b. b || has q i) first ∙ second)
+
+pub has-advanced : (cells : List Cell) (b : ℕ) (p : Plain) (i : ℕ) → has (advanced_plain cells b p) i ≡ (has p i || settles cells b i)
+has-advanced cells b p i = at (nat_lt i (max p.next b)) refl
+  where
+    at : (c : Bool) → nat_lt i (max p.next b) ≡ c → has (advanced_plain cells b p) i ≡ (has p i || settles cells b i)
+    at true e = has-plain_of (λ j. has p j || settles cells b j) (max p.next b) i (ltb-true i (max p.next b) e)
+    at false e =
+        let le : max p.next b ≤ i = ltb-false i (max p.next b) e in
+        let first : has p i ≡ false = ap (λ c. c && not (contains p.gaps i)) (le-ltb i p.next (omega arith)) in
+        let second : settles cells b i ≡ false = ap (λ c. c && is_settled cells i) (le-ltb i b (omega arith)) in
+        has-plain_of-beyond (λ j. has p j || settles cells b j) (max p.next b) i le ∙ sym (ap (λ c. c || settles cells b i) first ∙ second)
 
 pub canonical-union : (p q : Plain) → IsTrue (is_canonical_plain (union p q))
 canonical-union p q = canonical-plain_of (λ i. has p i || has q i) (max p.next q.next)
@@ -310,14 +289,14 @@ includes-is p q h = same-bool _ _ (λ e. and-true _ _ (long e) (apart-gaps e)) (
     lacks-gap : (g : ℕ) (b : Bool) → has q g ≡ b → includes p q ≡ true → contains p.gaps g ≡ true → not b ≡ true
     lacks-gap g true e i c =
         let there : not (contains p.gaps g) ≡ true = and-right (nat_lt g p.next) _ (included-at p q g i e) in
-        absurd (apart (contains p.gaps g) c (not-true-is (contains p.gaps g) there))
+        absurd (apart (contains p.gaps g) c (not-true (contains p.gaps g) there))
     lacks-gap g false e i c = refl
 
     apart-gaps : includes p q ≡ true → list_all (λ g. not (has q g)) p.gaps ≡ true
     apart-gaps i = all-contained (λ g. not (has q g)) p.gaps (λ g c. lacks-gap g (has q g) refl i c)
 
     free : (i : ℕ) (b : Bool) → contains p.gaps i ≡ b → list_all (λ g. not (has q g)) p.gaps ≡ true → has q i ≡ true → not b ≡ true
-    free i true c a k = absurd (apart (has q i) k (not-true-is (has q i) (contained-all (λ g. not (has q g)) p.gaps i a c)))
+    free i true c a k = absurd (apart (has q i) k (not-true (has q i) (contained-all (λ g. not (has q g)) p.gaps i a c)))
     free i false c a k = refl
 
     back : (i : ℕ) → nat_le q.next p.next ≡ true → list_all (λ g. not (has q g)) p.gaps ≡ true → has q i ≡ true → has p i ≡ true
@@ -497,3 +476,14 @@ pub includes-short : (p q : Plain) (b : Bool) → is_canonical_plain q ≡ true 
 includes-short p q b h lt e =
     let short : nat_le q.next p.next ≡ false = grind (arith, nat_tests) in
     e ∙ sym (includes-is p q h ∙ ap (λ c. c && list_all (λ g. not (has q g)) p.gaps) short)
+
+-- an advance, by what its value is
+pub advanced-sets : (cells : List Cell) (b : ℕ) (p later : Plain) → later ≡ advanced_plain cells b p → (i : ℕ) → has later i ≡ (has p i || settles cells b i)
+advanced-sets cells b p later e i = ap (λ (p : Plain). has p i) e ∙ has-advanced cells b p i
+
+pub advanced-canonical : (cells : List Cell) (b : ℕ) (p later : Plain) → later ≡ advanced_plain cells b p → IsTrue (is_canonical_plain later)
+advanced-canonical cells b p later e = canonical-as later (λ i. has p i || settles cells b i) (max p.next b) e
+
+-- a test of inclusion, by what the sets have
+pub includes-sets : (p q : Plain) (b : Bool) → b ≡ includes p q → (b ≡ true → (i : ℕ) → has q i ≡ true → has p i ≡ true) × (((i : ℕ) → has q i ≡ true → has p i ≡ true) → b ≡ true)
+includes-sets p q b e = (λ h i k. included-at p q i (sym e ∙ h) k, λ f. e ∙ included-by p q f)

@@ -4,6 +4,7 @@ use Rattle.std.specs.List.{list_all}
 use Rattle.std.proofs.Common.{refl, ap, sym, ◌∙◌, arith}
 use Rattle.std.proofs.lemmas.Bool.Decides.{nat_tests}
 use borrow.Author.Tests.{ltb-true, ltb-false, eqb-true, eqb-false, eq-eqb, lt-ltb, le-ltb}
+use Rattle.ax_laws.proofs.Tests.{and-left, and-right}
 use Rattle.ax_values.specs.Words.{rises}
 use Rattle.ax_tokens.specs.Plain.{Plain, is_canonical_plain, has, contains, numbers_from, below, end_of, plain_of}
 
@@ -39,16 +40,16 @@ end_of-le test zero = omega arith
 end_of-le test (suc n) =
     elim (test n) as (λ b. (if b then suc n else end_of test n) ≤ suc n) [ true ↦ omega arith | false ↦ (let h : end_of test n ≤ n = end_of-le test n in omega arith) ]
 
+not-not : (t : Bool) → not (not t) ≡ t
+not-not true = refl
+not-not false = refl
+
 -- a plain token made of a test has the numbers that pass it
 pub has-plain_of : (test : ℕ → Bool) (n i : ℕ) → i < n → has (plain_of test n) i ≡ test i
 has-plain_of test n i h = ap (λ b. nat_lt i (end_of test n) && not b) (contains-filter-below (λ j. not (test j)) (end_of test n) i) ∙ at (nat_lt i (end_of test n)) refl
   where
-    back : (t : Bool) → not (not t) ≡ t
-    back true = refl
-    back false = refl
-
     at : (b : Bool) → nat_lt i (end_of test n) ≡ b → (b && not (b && not (test i))) ≡ test i
-    at true e = back (test i)
+    at true e = not-not (test i)
     at false e = sym (end_of-last test n i h (ltb-false i (end_of test n) e))
 
 -- and none from the bound on
@@ -58,14 +59,6 @@ has-plain_of-beyond test n i h = at (nat_lt i (end_of test n)) refl
     at : (b : Bool) → nat_lt i (end_of test n) ≡ b → (b && not (contains (plain_of test n).gaps i)) ≡ false
     at true e = absurd (omega (arith, ltb-true i (end_of test n) e, end_of-le test n))
     at false e = refl
-
-pub and-left : (a b : Bool) → (a && b) ≡ true → a ≡ true
-and-left true b e = refl
-and-left false b e = e
-
-pub and-right : (a b : Bool) → (a && b) ≡ true → b ≡ true
-and-right true b e = e
-and-right false b e = absurd (cc)
 
 -- ---- a canonical plain token is made of its set
 
@@ -206,15 +199,11 @@ plain_of-canonical test n p h bound same = λ k. record { next = nexts k; gaps =
     nexts : end_of test n ≡ p.next
     nexts = end_of-is test n p.next bound (ends p.next refl) past
 
-    back : (t : Bool) → not (not t) ≡ t
-    back true = refl
-    back false = refl
-
     member_at : (i : ℕ) (b : Bool) → nat_lt i p.next ≡ b → (b && not (test i)) ≡ contains p.gaps i
     member_at i true u =
         let lt : i < p.next = ltb-true i p.next u in
         let there : (nat_lt i p.next && not (contains p.gaps i)) ≡ test i = same i (omega arith) in
-        ap not (sym (rw u at there)) ∙ back (contains p.gaps i)
+        ap not (sym (rw u at there)) ∙ not-not (contains p.gaps i)
     member_at i false u = let ge : p.next ≤ i = ltb-false i p.next u in sym (no_gap i (omega arith))
 
     member : (i : ℕ) → contains (filter (λ j. not (test j)) (below (end_of test n))) i ≡ contains p.gaps i

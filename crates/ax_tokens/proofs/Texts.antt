@@ -4,9 +4,10 @@ use Rattle.std.specs.List.{list_all}
 use Rattle.std.specs.Fmt.{decimal}
 use Rattle.std.proofs.lemmas.Bool.Decides.{nat_tests}
 use Rattle.std.proofs.lemmas.Fmt.{decimal_nonempty}
-use Rattle.ax_values.specs.Grammar.{Line, Cut, when, cut_at, each_in, pieces, small_in, is_digit, ◌>>=◌}
+use Rattle.ax_values.specs.Grammar.{Line, Cut, when, cut_at, each_in, pieces, u32_in, is_digit, ◌>>=◌}
 use Rattle.ax_values.specs.Seen.{comma_led, commas, bracketed}
-use Rattle.ax_values.proofs.Options.{both, and-true, not-true, when-true, when-some, then-some, map-some}
+use Rattle.ax_laws.proofs.Tests.{both, and-true, not-true}
+use Rattle.ax_values.proofs.Options.{when-true, when-some, then-some, map-some}
 use Rattle.ax_values.proofs.Numbers.{number_to-decimal, from_number_to, digits-decimal}
 use Rattle.ax_values.proofs.Cuts.{lacks, cut_at-append, from_cut, same_byte}
 use Rattle.ax_values.proofs.Items.{lacks-decimal}
@@ -34,7 +35,7 @@ from_byte b (c ∷ cs) rest h =
     let e : b ≡ c = grind (arith, nat_tests, p.0) in
     ap (λ r. b ∷ r) (sym p.1) ∙ ap (λ d. d ∷ cs) e
 
-number-back : (w : Line) (n : ℕ) → small_in w ≡ Some n → decimal n ≡ w
+number-back : (w : Line) (n : ℕ) → u32_in w ≡ Some n → decimal n ≡ w
 number-back w n h = (from_number_to (2 ^ 32 - 1) w n (omega arith) h).text
 
 -- what the text of gaps is, where these are the words between commas
@@ -46,15 +47,15 @@ given_gaps : Cut → List ℕ → Option (Found (List ℕ))
 given_gaps t gs = Some (record { value = gs; rest = t.after })
 
 gaps_cut : Cut → Option (Found (List ℕ))
-gaps_cut t = each_in small_in (pieces 44 t.before) >>= given_gaps t
+gaps_cut t = each_in u32_in (pieces 44 t.before) >>= given_gaps t
 
 from_closed : (cs : Line) (f : Found (List ℕ)) → closed_gaps_at cs ≡ Some f → gaps_text f.value ++ f.rest ≡ 91 ∷ cs
 unfolding gaps_cut given_gaps
 from_closed cs f h =
     let p = then-some (cut_at 93 cs) gaps_cut f h in
-    let q = then-some (each_in small_in (pieces 44 p.from.before)) (given_gaps p.from) f p.gives in
+    let q = then-some (each_in u32_in (pieces 44 p.from.before)) (given_gaps p.from) f p.gives in
     let is_found : record { value = q.from; rest = p.from.after } ≡ f = cc in
-    let text = gaps_text-is q.from p.from.before (map-each_in small_in decimal number-back (pieces 44 p.from.before) q.from q.held) in
+    let text = gaps_text-is q.from p.from.before (map-each_in u32_in decimal number-back (pieces 44 p.from.before) q.from q.held) in
     subst (λ (f : Found (List ℕ)). gaps_text f.value ++ f.rest ≡ 91 ∷ cs) is_found
     (ap (λ t. t ++ p.from.after) text
     ∙ ap (λ t. 91 ∷ t) (append_assoc p.from.before (93 ∷ []) p.from.after ∙ (from_cut 93 cs p.from p.held).whole))
@@ -79,7 +80,7 @@ gaps_behind cs next = gaps_at cs >>= canonical_at next
 from_plain : (cs : Line) (f : Found Plain) → plain_at cs ≡ Some f → plain_text f.value ++ f.rest ≡ cs
 unfolding gaps_behind
 from_plain cs f h =
-    let p = then-some (small_in (digits_at cs).before) (gaps_behind (digits_at cs).after) f h in
+    let p = then-some (u32_in (digits_at cs).before) (gaps_behind (digits_at cs).after) f h in
     let q = then-some (gaps_at (digits_at cs).after) (canonical_at p.from) f p.gives in
     let r = when-some (is_canonical_plain (record { next = p.from; gaps = q.from.value })) (record { value = record { next = p.from; gaps = q.from.value }; rest = q.from.rest }) f q.gives in
     subst (λ (f : Found Plain). plain_text f.value ++ f.rest ≡ cs) r.1
@@ -262,9 +263,9 @@ small-rest : (n g : ℕ) (gs : List ℕ) → AreSmall n (g ∷ gs) → AreSmall 
 small-rest n g gs h = (both (nat_lt (suc g) n) (list_all (λ g. nat_lt (suc g) n) gs) h).1
 
 with_gaps : List ℕ → ℕ → Option (List ℕ)
-with_gaps gs g = option_map (λ xs. g ∷ xs) (each_in small_in (map decimal gs))
+with_gaps gs g = option_map (λ xs. g ∷ xs) (each_in u32_in (map decimal gs))
 
-each-decimal : (gs : List ℕ) (n : ℕ) → AreSmall n gs → n < 2 ^ 32 → each_in small_in (map decimal gs) ≡ Some gs
+each-decimal : (gs : List ℕ) (n : ℕ) → AreSmall n gs → n < 2 ^ 32 → each_in u32_in (map decimal gs) ≡ Some gs
 unfolding with_gaps
 each-decimal [] n h k = refl
 each-decimal (g ∷ gs) n h k =
@@ -303,7 +304,7 @@ closed-append g gs n rest h k =
     let t : Line = commas (map decimal (g ∷ gs)) in
     ap closed_gaps_at (append_assoc t (93 ∷ []) rest)
     ∙ ap (λ o. o >>= gaps_cut) (cut_at-append t 93 rest (lacks-commas (map decimal (g ∷ gs)) (lacking-decimals 93 (g ∷ gs) n refl h k)))
-    ∙ ap (λ ws. each_in small_in ws >>= given_gaps (record { before = t; after = rest })) (pieces-commas (map decimal gs) (decimal g) (lacking-decimals 44 (g ∷ gs) n refl h k))
+    ∙ ap (λ ws. each_in u32_in ws >>= given_gaps (record { before = t; after = rest })) (pieces-commas (map decimal gs) (decimal g) (lacking-decimals 44 (g ∷ gs) n refl h k))
     ∙ ap (λ o. o >>= given_gaps (record { before = t; after = rest })) (each-decimal (g ∷ gs) n h k)
 
 unbracketed : (cs : Line) → stops cs ≡ true → gaps_at cs ≡ Some (record { value = []; rest = cs })
@@ -319,7 +320,7 @@ ends-gaps [] rest s = ends-stops rest s
 ends-gaps (g ∷ gs) rest s = refl
 
 plain_by : Cut → Option (Found Plain)
-plain_by t = small_in t.before >>= gaps_behind t.after
+plain_by t = u32_in t.before >>= gaps_behind t.after
 
 pub plain_at-append : (p : Plain) (rest : Line) → is_canonical_plain p ≡ true → p.next < 2 ^ 32 → stops rest ≡ true → plain_at (plain_text p ++ rest) ≡ Some (record { value = p; rest = rest })
 unfolding plain_by gaps_behind

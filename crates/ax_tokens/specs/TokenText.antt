@@ -1,7 +1,7 @@
 -- The text of a token, and its reader.
 use Rattle.std.specs.Prelude.{ℕ, zero, suc, ◌==◌, Bool, true, false, List, [], ◌∷◌, ◌++◌, map, Option, Some, None, option_map}
 use Rattle.std.specs.Fmt.{decimal}
-use Rattle.ax_values.specs.Grammar.{Line, ◌>>=◌, when, Cut, cut_at, each_in, pieces, small_in, is_digit}
+use Rattle.ax_values.specs.Grammar.{Line, ◌>>=◌, when, Cut, cut_at, each_in, pieces, u32_in, is_digit}
 use Rattle.ax_values.specs.Seen.{commas, bracketed}
 use Rattle.ax_tokens.specs.Plain.{Plain, is_canonical_plain}
 use Rattle.ax_tokens.specs.Tokens.{Token, plain, merged, replay}
@@ -45,7 +45,7 @@ after_byte b (c ∷ cs) = when (c == b) cs
 abbrev pub closed_gaps_at : Line → Option (Found (List ℕ))
 closed_gaps_at cs = do
   t ← cut_at 93 cs
-  gaps ← each_in small_in (pieces 44 t.before)
+  gaps ← each_in u32_in (pieces 44 t.before)
   Some (record { value = gaps; rest = t.after })
 
 abbrev pub gaps_by : Bool → ℕ → Line → Option (Found (List ℕ))
@@ -62,7 +62,7 @@ canonical_at next gaps = when (is_canonical_plain (record { next = next; gaps = 
 
 abbrev pub plain_at : Line → Option (Found Plain)
 plain_at cs = do
-  next ← small_in (digits_at cs).before
+  next ← u32_in (digits_at cs).before
   gaps ← gaps_at (digits_at cs).after
   canonical_at next gaps
 

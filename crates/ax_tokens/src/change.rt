@@ -19,7 +19,7 @@ impl Token {
         ensures canonical { IfOk result (λ later. IsTrue (is_canonical (token_of later))) }
     {
         let later = self.advanced(alloc, cells, to)?;
-        later.keep();
+        later.facts();
         Ok(later)
     }
 
@@ -31,7 +31,7 @@ impl Token {
         ensures canonical { IfOk result (λ both. IsTrue (is_canonical (token_of both))) }
     {
         let both = Token::Merged(Half::of(alloc, lower)?, Half::of(alloc, upper)?);
-        both.keep();
+        both.facts();
         Ok(both)
     }
 
@@ -46,8 +46,8 @@ impl Token {
         ensures canonical { IfOk result (λ halves. IsTrue (is_canonical (token_of halves.0) && is_canonical (token_of halves.1))) }
     {
         let halves = self.halves(alloc)?;
-        halves.0.keep();
-        halves.1.keep();
+        halves.0.facts();
+        halves.1.facts();
         Ok(halves)
     }
 
@@ -63,7 +63,7 @@ impl Token {
             at_reset: self.ever_covered(alloc)?,
             current: Plain::nothing(alloc),
         };
-        anew.keep();
+        anew.facts();
         Ok(anew)
     }
 
@@ -79,7 +79,7 @@ impl Token {
         ensures canonical { IfOk result (λ less. IsTrue (is_canonical (token_of less))) }
     {
         let less = self.collapsed(alloc)?;
-        less.keep();
+        less.facts();
         Ok(less)
     }
 

@@ -91,6 +91,8 @@ impl Plain {
     pub fn advance(&self, alloc: Global, cells: &[Cell], to: u32) -> Result<Plain, NoMemory>
         requires { to ≤ length cells.now }
         ensures value { IfOk result (λ later. later ≡ advanced_plain cells.now to self.now) }
+        ensures sets { IfOk result (λ later. (index : ℕ) → has later index ≡ (has self.now index || settles cells.now to index)) }
+        ensures canonical { IfOk result (λ later. IsTrue (is_canonical_plain later)) }
     {
         let gaps = still_reserved(alloc, self.gaps(), cells, to)?;
         self.covered_to(gaps, cells, to)
@@ -99,6 +101,7 @@ impl Plain {
     /// Whether the set has all that the other has.
     pub fn includes(&self, other: &Plain) -> bool
         ensures value { result ≡ includes self.now other.now }
+        ensures sets { IsTrue result ↔ ((index : ℕ) → IsTrue (has other.now index) → IsTrue (has self.now index)) }
     {
         other.next() <= self.next() && lack_all(self.gaps(), other)
     }

@@ -1,5 +1,5 @@
 ghost use Rattle.std.specs.Prelude.{◌≡◌, ◌≤◌, ◌++◌, ◌∷◌, suc, map, nat_lt, length, take, option_map, IsTrue, IfOk, IfSome, OnOk, OnErr};
-ghost use Rattle.ax_values.specs.Grammar.{IsReadBack, each_in, pieces, small_in};
+ghost use Rattle.ax_values.specs.Grammar.{IsReadBack, each_in, pieces, u32_in};
 ghost use Rattle.std.specs.List.{list_all};
 ghost use Rattle.std.specs.Fmt.{decimal};
 ghost use Rattle.ax_values.specs.Seen.{comma_led};
@@ -10,7 +10,7 @@ ghost use Rattle.ax_tokens.specs.Nodes.{token_of};
 ghost use Rattle.ax_tokens.specs.TokenText.{gaps_text, plain_text, token_text, digits_at, after_byte, gaps_at, plain_at, token_at, half_at, halves_at, replay_at, max_depth, token_in};
 
 use crate::{Half, Plain, Token};
-use ax_values::{ListOf, NoMemory, cut_at, read_small, whole_or_none, write_small};
+use ax_values::{ListOf, NoMemory, cut_at, read_u32, undo_on_error, write_u32};
 use std::alloc::Global;
 
 impl Token {
@@ -24,7 +24,7 @@ impl Token {
     {
         match token_at(alloc, 16, text)? {
             Some((token, [])) => {
-                token.keep();
+                token.facts();
                 Ok(Some(token))
             }
             _ => Ok(None),
@@ -32,37 +32,37 @@ impl Token {
     }
 
     /// Adds the token's text. Where memory is wanting, nothing is added.
-    pub fn write(&self, alloc: Global, out: &mut Vec<u8>) -> Result<(), NoMemory>
+    pub fn write(&self, out: &mut Vec<u8>) -> Result<(), NoMemory>
         requires { depth (token_of self.now) ≤ max_depth }
         ensures ok { OnOk result (out.new.items ≡ out.old.items ++ token_text (token_of self.now)) }
         ensures err { OnErr result (out.new.items ≡ out.old.items) }
         ensures again { IsReadBack token_in (token_text (token_of self.now)) (token_of self.now) }
     {
-        self.keep();
+        self.facts();
         let start = out.len();
-        let written = self.write_parts(alloc, out);
-        whole_or_none(out, start, written)
+        let written = self.write_parts(out);
+        undo_on_error(out, start, written)
     }
 
-    fn write_parts(&self, alloc: Global, out: &mut Vec<u8>) -> Result<(), NoMemory>
+    fn write_parts(&self, out: &mut Vec<u8>) -> Result<(), NoMemory>
         ensures ok { OnOk result (out.new.items ≡ out.old.items ++ token_text (token_of self.now)) }
         ensures front { OnErr result (take (length out.old.items) out.new.items ≡ out.old.items) }
     {
         match self {
-            Token::Plain(plain) => write_plain(alloc, plain, out),
+            Token::Plain(plain) => write_plain(plain, out),
             Token::Merged(lower, upper) => {
                 out.push(b'(')?;
-                lower.get().write_parts(alloc, out)?;
+                lower.get().write_parts(out)?;
                 out.push(b'|')?;
-                upper.get().write_parts(alloc, out)?;
+                upper.get().write_parts(out)?;
                 out.push(b')')?;
                 Ok(())
             }
             Token::Replay { at_reset, current } => {
                 out.push(b'{')?;
-                write_plain(alloc, at_reset, out)?;
+                write_plain(at_reset, out)?;
                 out.push(b'>')?;
-                write_plain(alloc, current, out)?;
+                write_plain(current, out)?;
                 out.push(b'}')?;
                 Ok(())
             }
@@ -70,15 +70,15 @@ impl Token {
     }
 }
 
-fn write_plain(alloc: Global, plain: &Plain, out: &mut Vec<u8>) -> Result<(), NoMemory>
+fn write_plain(plain: &Plain, out: &mut Vec<u8>) -> Result<(), NoMemory>
     ensures ok { OnOk result (out.new.items ≡ out.old.items ++ plain_text plain.now) }
     ensures front { OnErr result (take (length out.old.items) out.new.items ≡ out.old.items) }
 {
-    write_small(alloc, plain.next(), out)?;
-    write_gaps(alloc, plain.gaps(), out)
+    write_u32(plain.next(), out)?;
+    write_gaps(plain.gaps(), out)
 }
 
-fn write_gaps(alloc: Global, gaps: &[u32], out: &mut Vec<u8>) -> Result<(), NoMemory>
+fn write_gaps(gaps: &[u32], out: &mut Vec<u8>) -> Result<(), NoMemory>
     ensures ok { OnOk result (out.new.items ≡ out.old.items ++ gaps_text gaps.now) }
     ensures front { OnErr result (take (length out.old.items) out.new.items ≡ out.old.items) }
 {
@@ -86,21 +86,21 @@ fn write_gaps(alloc: Global, gaps: &[u32], out: &mut Vec<u8>) -> Result<(), NoMe
         [] => Ok(()),
         [first, rest @ ..] => {
             out.push(b'[')?;
-            write_small(alloc, *first, out)?;
-            write_led(alloc, rest, out)?;
+            write_u32(*first, out)?;
+            write_led(rest, out)?;
             out.push(b']')?;
             Ok(())
         }
     }
 }
 
-fn write_led(alloc: Global, gaps: &[u32], out: &mut Vec<u8>) -> Result<(), NoMemory>
+fn write_led(gaps: &[u32], out: &mut Vec<u8>) -> Result<(), NoMemory>
     ensures ok { OnOk result (out.new.items ≡ out.old.items ++ comma_led (map decimal gaps.now)) }
     ensures front { OnErr result (take (length out.old.items) out.new.items ≡ out.old.items) }
 {
     for &gap in gaps {
         out.push(b',')?;
-        write_small(alloc, gap, out)?;
+        write_u32(gap, out)?;
     }
     Ok(())
 }
@@ -173,7 +173,7 @@ fn plain_at(alloc: Global, text: &[u8]) -> Result<Option<(Plain, &[u8])>, NoMemo
     ensures { IfOk result (λ read. option_map (λ t. record { value = t.0; rest = t.1.now }) read ≡ plain_at text.now) }
 {
     let (digits, rest) = digits_at(text);
-    let Some(next) = read_small(digits) else {
+    let Some(next) = read_u32(digits) else {
         return Ok(None);
     };
     let Some((gaps, rest)) = gaps_at(alloc, rest)? else {
@@ -220,18 +220,18 @@ fn gaps_at(alloc: Global, text: &[u8]) -> Result<Option<(Vec<u32>, &[u8])>, NoMe
 }
 
 fn read_gaps(alloc: Global, text: &[u8]) -> Result<Option<Vec<u32>>, NoMemory>
-    ensures { IfOk result (λ read. option_map (λ gaps. gaps.items) read ≡ each_in small_in (pieces 44 text.now)) }
+    ensures { IfOk result (λ read. option_map (λ gaps. gaps.items) read ≡ each_in u32_in (pieces 44 text.now)) }
 {
     let mut gaps = Vec::new(alloc);
     let mut rest = text;
     while let Some((first, after)) = cut_at(b',', rest) {
-        let Some(gap) = read_small(first) else {
+        let Some(gap) = read_u32(first) else {
             return Ok(None);
         };
         gaps.push(gap)?;
         rest = after;
     }
-    let Some(gap) = read_small(rest) else {
+    let Some(gap) = read_u32(rest) else {
         return Ok(None);
     };
     gaps.push(gap)?;

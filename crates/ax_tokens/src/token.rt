@@ -55,7 +55,7 @@ impl Half {
     pub fn of(alloc: Global, token: Token) -> Result<Half, NoMemory>
         ensures value { IfOk result (λ half. half ≡ token_of token) }
     {
-        token.keep();
+        token.facts();
         Ok(Half {
             token: Box::new(alloc, token)?,
         })
@@ -131,8 +131,8 @@ impl Token {
         }
     }
 
-    /// Does nothing; its clause says of the whole token what the types of its parts keep.
-    pub fn keep(&self)
+    /// Says to a proof what the types of the parts keep, of the whole token. It does nothing.
+    pub fn facts(&self)
         ensures { IsKept (token_of self.now) }
     {
         match self {

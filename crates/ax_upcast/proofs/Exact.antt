@@ -5,13 +5,12 @@ use Rattle.std.proofs.lemmas.List.{map-append, length-map}
 use Rattle.std.proofs.lemmas.Bool.Decides.{nat_tests}
 use Rattle.std.proofs.lemmas.Slice.Eq.{bytes_eq-Decides}
 use Rattle.ax_values.specs.Words.{same_name}
-use Rattle.ax_values.proofs.Options.{both, and-true}
-use Rattle.ax_upcast.proofs.Counts.{neither}
+use Rattle.ax_laws.proofs.Tests.{both, and-true, neither}
 use Rattle.ax_upcast.specs.declared.event.Event.{Event}
 use Rattle.ax_upcast.specs.declared.event.Template.{Template}
 use Rattle.ax_upcast.specs.declared.upcaster.Act.{Act}
 use Rattle.ax_upcast.specs.declared.upcaster.Upcaster.{Upcaster}
-use Rattle.ax_upcast.specs.Upcast.{takes, acted, replaced, chained, event_of_template, most_items, IsFew, Form, form_of_template, forms_by, reformed, stays_few, first_form, is_few}
+use Rattle.ax_upcast.specs.Upcast.{takes, acted, replaced, chained, event_of_template, most_items, KeepsLimit, Form, form_of_template, forms_by, reformed, stays_few, first_form, keeps_limit}
 
 -- ---- forms
 
@@ -85,7 +84,7 @@ same_form u e h =
 at_rule : (us : List Upcaster) (e : Event) (k : ℕ) (u : Upcaster) → stays_few us (first_form u ∷ []) ≡ true → takes u e.kind e.revision ≡ true → length (chained (take k us) (e ∷ [])) ≤ most_items
 at_rule us e k u h t = from_stays us k (e ∷ []) (ap (λ f. stays_few us (f ∷ [])) (sym (same_form u e t)) ∙ h) (omega arith)
 
-pub few-from_test : (us : List Upcaster) → is_few us ≡ true → IsFew us
+pub few-from_test : (us : List Upcaster) → keeps_limit us ≡ true → KeepsLimit us
 few-from_test us h e k = by (list_any (λ u. takes u e.kind e.revision) us) refl
   where
     by : (b : Bool) → list_any (λ u. takes u e.kind e.revision) us ≡ b → length (chained (take k us) (e ∷ [])) ≤ most_items
@@ -109,9 +108,9 @@ all p (u ∷ us) h = and-true (p u) (list_all p us) (h u) (all p us h)
 first_event : Upcaster → Event
 first_event u = record { kind = u.kind; revision = u.revision; payload = [] }
 
-pub test-from_few : (us : List Upcaster) → IsFew us → is_few us ≡ true
+pub test-from_few : (us : List Upcaster) → KeepsLimit us → keeps_limit us ≡ true
 unfolding first_event
 test-from_few us h = all (λ u. stays_few us (first_form u ∷ [])) us (λ u. to_stays us (first_event u ∷ []) (h (first_event u)))
 
-pub exact : (us : List Upcaster) (b : Bool) → b ≡ is_few us → (b ≡ true → IsFew us) × (IsFew us → b ≡ true)
+pub exact : (us : List Upcaster) (b : Bool) → b ≡ keeps_limit us → (b ≡ true → KeepsLimit us) × (KeepsLimit us → b ≡ true)
 exact us b e = (λ h. few-from_test us (sym e ∙ h), λ few. e ∙ test-from_few us few)

@@ -1,3 +1,2 @@
 pub mod Upcast
-pub mod Fields
 pub mod Forms

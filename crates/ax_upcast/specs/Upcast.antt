@@ -90,8 +90,8 @@ abbrev pub most_items : ℕ
 most_items = 8
 
 -- no event has become too many after any of the rules
-abbrev pub IsFew : List Upcaster → Type 0
-IsFew us = (e : Event) (k : ℕ) → length (chained (take k us) (e ∷ [])) ≤ most_items
+abbrev pub KeepsLimit : List Upcaster → Type 0
+KeepsLimit us = (e : Event) (k : ℕ) → length (chained (take k us) (e ∷ [])) ≤ most_items
 
 -- a kind and its revision
 pub record Form : Type 0 where
@@ -120,5 +120,5 @@ abbrev pub first_form : Upcaster → Form
 first_form u = record { kind = u.kind; revision = u.revision }
 
 -- how many items there are rests on kind and revision alone, and changes only from those of a rule
-abbrev pub is_few : List Upcaster → Bool
-is_few us = list_all (λ u. stays_few us (first_form u ∷ [])) us
+abbrev pub keeps_limit : List Upcaster → Bool
+keeps_limit us = list_all (λ u. stays_few us (first_form u ∷ [])) us

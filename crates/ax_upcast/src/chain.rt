@@ -1,6 +1,6 @@
 ghost use Rattle.std.specs.Prelude.{◌≡◌, ◌≤◌, length, flat_map, IfOk};
 ghost use Rattle.std.specs.List.{list_any};
-ghost use Rattle.ax_upcast.specs.Upcast.{IsFew, takes, replaced, upcast, most_items};
+ghost use Rattle.ax_upcast.specs.Upcast.{KeepsLimit, takes, replaced, upcast, most_items};
 
 use crate::Upcaster;
 use crate::member::{Member, numbered};
@@ -17,19 +17,19 @@ pub struct Chain {
 impl Model for Chain {
     ghost use Rattle.std.specs.Prelude.{List};
     ghost use Rattle.ax_upcast.specs.declared.upcaster.Upcaster.{Upcaster};
-    ghost use Rattle.ax_upcast.specs.Upcast.{IsFew};
+    ghost use Rattle.ax_upcast.specs.Upcast.{KeepsLimit};
 
     ghost Value = { List Upcaster };
 
     ghost view = { λ chain. chain.rules.items };
 
-    ghost invariant = { λ chain. IsFew chain.rules.items };
+    ghost invariant = { λ chain. KeepsLimit chain.rules.items };
 }
 
 impl Chain {
-    /// The chain of these rules. `is_few` tells whether they may form one.
+    /// The chain of these rules. `keeps_limit` tells whether they may form one.
     pub fn of(parts: Vec<Upcaster>) -> Chain
-        requires { IsFew parts.items }
+        requires { KeepsLimit parts.items }
         ensures { result ≡ parts.items }
     {
         Chain { rules: parts }
@@ -38,7 +38,7 @@ impl Chain {
     /// The rules, in order.
     pub fn parts(&self) -> &[Upcaster]
         ensures value { result.now ≡ self.now }
-        ensures few { IsFew self.now }
+        ensures few { KeepsLimit self.now }
     {
         &self.rules
     }
@@ -48,7 +48,7 @@ impl Chain {
         ensures value { IfOk result (λ items. items ≡ upcast self.now event.now) }
         ensures few { IfOk result (λ items. length items ≤ most_items) }
     {
-        let mut members = Vec::new(alloc);
+        let mut members = Vec::with_capacity(alloc, 1)?;
         members.push(Member::of(alloc, event)?)?;
         for rule in self.parts() {
             members = replaced(alloc, rule, members)?;

@@ -1,5 +1,5 @@
 ghost use Rattle.std.specs.Prelude.{◌≡◌, ◌↔◌, [], ◌∷◌, ◌++◌, map, flat_map, IsTrue, IfOk, OnOk};
-ghost use Rattle.ax_upcast.specs.Upcast.{IsFew, is_few, stays_few, reformed, first_form, form_of_template};
+ghost use Rattle.ax_upcast.specs.Upcast.{KeepsLimit, keeps_limit, stays_few, reformed, first_form, form_of_template};
 ghost use Rattle.ax_upcast.specs.Forms.{form_of};
 
 use crate::{Act, Template, Upcaster};
@@ -18,9 +18,9 @@ struct Form<'a> {
 
 /// Whether no record gives more than 8 items after any of the rules. It is enough to begin from each rule's own kind and
 /// revision, since no other record changes.
-pub fn is_few(alloc: Global, rules: &[Upcaster]) -> Result<bool, NoMemory>
-    ensures value { IfOk result (λ few. few ≡ is_few rules.now) }
-    ensures exact { IfOk result (λ few. IsTrue few ↔ IsFew rules.now) }
+pub fn keeps_limit(alloc: Global, rules: &[Upcaster]) -> Result<bool, NoMemory>
+    ensures value { IfOk result (λ few. few ≡ keeps_limit rules.now) }
+    ensures exact { IfOk result (λ few. IsTrue few ↔ KeepsLimit rules.now) }
 {
     for rule in rules {
         if !stays_few(alloc, rules, rule.first_form())? {

@@ -1,7 +1,5 @@
 ghost use Rattle.std.specs.Prelude.{◌≡◌, ◌<◌, length, Some, IsTrue, IfOk, OnOk, OnSome, IfNone, option_copied};
-ghost use Rattle.std.specs.List.{prefix_len, slice_get};
-ghost use Rattle.ax_upcast.specs.Fields.{stands_before, is_named};
-ghost use Rattle.ax_values.specs.Words.{rises, field_below, field_of, field_cmp, name_cmp, put_rising, remove_field, same_name};
+ghost use Rattle.ax_values.specs.Words.{rises, field_below, field_of, field_cmp, put_rising, remove_field};
 ghost use Rattle.ax_upcast.specs.Upcast.{given_value, filled, renamed, defaulted};
 
 use crate::GivenField;
@@ -20,42 +18,22 @@ fn value_of<'a>(fields: &'a [Field], name: &Name) -> Option<&'a Value>
     None
 }
 
-fn stands_before(field: &Field, name: &Name) -> bool
-    ensures { result ≡ stands_before name.now field.now }
-{
-    field.name < *name
-}
-
-/// How many fields stand before a name.
-fn count_below(fields: &[Field], name: &Name) -> usize
-    requires { IsTrue (rises field_below fields.now) }
-    ensures { result ≡ prefix_len (stands_before name.now) fields.now }
-{
-    fields.partition_point(|field| stands_before(field, name))
-}
-
-fn has_at(fields: &[Field], place: usize, name: &Name) -> bool
-    ensures { result ≡ is_named name.now (slice_get fields.now place) }
-{
-    match fields.get(place) {
-        Some(field) => field.name.same(name),
-        None => false,
-    }
-}
-
 /// Puts the field in its place, or in the place of the one with its name.
 fn put(fields: &mut Vec<Field>, field: Field) -> Result<(), NoMemory>
     requires { IsTrue (rises field_below fields.old.items) }
     ensures ok { OnOk result (fields.new.items ≡ put_rising field_cmp field fields.old.items) }
     ensures rising { OnOk result (IsTrue (rises field_below fields.new.items)) }
 {
-    let place = count_below(fields, &field.name);
-    if has_at(fields, place, &field.name) {
-        fields[place] = field;
-    } else {
-        fields.insert(place, field)?;
+    match field.place_among(fields) {
+        Ok(place) => {
+            fields[place] = field;
+            Ok(())
+        }
+        Err(place) => {
+            fields.insert(place, field)?;
+            Ok(())
+        }
     }
-    Ok(())
 }
 
 /// Takes the field of a name out, and answers its value.
@@ -93,7 +71,7 @@ pub(crate) fn filled(
     ensures value { IfOk result (λ fields. fields.items ≡ filled given.now source.now) }
     ensures rising { IfOk result (λ fields. IsTrue (rises field_below fields.items)) }
 {
-    let mut fields = Vec::new(alloc);
+    let mut fields = Vec::with_capacity(alloc, given.len())?;
     for part in given {
         if let Some(value) = given_value(&part.given, source) {
             let name = part.name.copy(alloc)?;

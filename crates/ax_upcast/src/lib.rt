@@ -10,5 +10,5 @@ mod upcaster;
 
 pub use chain::Chain;
 pub use event::{Event, GivenField, GivenFields, Template, Templates};
-pub use few::is_few;
+pub use few::keeps_limit;
 pub use upcaster::{Act, Upcaster};

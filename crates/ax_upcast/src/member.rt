@@ -1,10 +1,11 @@
-ghost use Rattle.std.specs.Prelude.{◌≡◌, ◌≤◌, ◌++◌, length, map, OnOk, IfOk};
-ghost use Rattle.ax_upcast.specs.Upcast.{takes, renamed, defaulted, event_of_template, event_of_record, acted, replaced, numbered, most_items};
+ghost use Rattle.std.specs.Prelude.{◌≡◌, ◌≤◌, ◌++◌, [], ◌∷◌, length, map, IsTrue, OnOk, IfOk};
+ghost use Rattle.ax_values.specs.Words.{rises, field_below};
+ghost use Rattle.ax_upcast.specs.Upcast.{takes, event_of_template, event_of_record, acted, replaced, numbered, most_items};
 
 use crate::fields::{filled, rename, supply};
 use crate::{Act, Template, Upcaster};
 use ax_values::{
-    Duplicate, Field, Item, ItemName, Items, Name, NoMemory, Payload, Record, Value, copy_all,
+    Duplicate, Field, Item, ItemName, Items, Name, NoMemory, Payload, Record, copy_all,
 };
 use std::alloc::Global;
 use std::marker::Model;
@@ -49,65 +50,6 @@ impl Member {
             revision: template.revision,
             fields: filled(alloc, template.fields.parts(), source)?,
         })
-    }
-
-    fn renamed(
-        self,
-        alloc: Global,
-        old: &Name,
-        new: &Name,
-        revision: u32,
-    ) -> Result<Member, NoMemory>
-        ensures { IfOk result (λ member. member ≡ record { kind = self.kind; revision = revision; payload = renamed old.now new.now self.payload }) }
-    {
-        let Member {
-            kind,
-            revision: _,
-            mut fields,
-        } = self;
-        rename(alloc, &mut fields, old, new)?;
-        Ok(Member {
-            kind,
-            revision,
-            fields,
-        })
-    }
-
-    fn supplied(
-        self,
-        alloc: Global,
-        name: &Name,
-        value: &Value,
-        revision: u32,
-    ) -> Result<Member, NoMemory>
-        ensures { IfOk result (λ member. member ≡ record { kind = self.kind; revision = revision; payload = defaulted name.now value.now self.payload }) }
-    {
-        let Member {
-            kind,
-            revision: _,
-            mut fields,
-        } = self;
-        supply(alloc, &mut fields, name, value)?;
-        Ok(Member {
-            kind,
-            revision,
-            fields,
-        })
-    }
-
-    fn retyped(self, kind: Name, revision: u32) -> Member
-        ensures { result ≡ record { kind = kind; revision = revision; payload = self.payload } }
-    {
-        let Member {
-            kind: _,
-            revision: _,
-            fields,
-        } = self;
-        Member {
-            kind,
-            revision,
-            fields,
-        }
     }
 
     fn into_item(self, name: ItemName) -> Item
@@ -155,38 +97,53 @@ impl Upcaster {
 fn act(alloc: Global, act: &Act, member: Member, out: &mut Vec<Member>) -> Result<(), NoMemory>
     ensures { OnOk result (out.new.items ≡ out.old.items ++ acted act.now member) }
 {
+    let Member {
+        kind,
+        revision: _,
+        mut fields,
+    } = member;
     match act {
         Act::Rename { old, new, revision } => {
-            out.push(member.renamed(alloc, old, new, *revision)?)?;
-            Ok(())
+            rename(alloc, &mut fields, old, new)?;
+            add(kind, *revision, fields, out)
         }
         Act::Default {
             name,
             value,
             revision,
         } => {
-            out.push(member.supplied(alloc, name, value, *revision)?)?;
-            Ok(())
+            supply(alloc, &mut fields, name, value)?;
+            add(kind, *revision, fields, out)
         }
-        Act::Retype { kind, revision } => {
-            out.push(member.retyped(kind.copy(alloc)?, *revision))?;
-            Ok(())
-        }
-        Act::Split(parts) => split(alloc, parts.parts(), &member, out),
+        Act::Retype { kind, revision } => add(kind.copy(alloc)?, *revision, fields, out),
+        Act::Split(parts) => split(alloc, parts.parts(), &fields, out),
         Act::Remove => Ok(()),
     }
+}
+
+/// Adds the member of these parts.
+fn add(kind: Name, revision: u32, fields: Vec<Field>, out: &mut Vec<Member>) -> Result<(), NoMemory>
+    requires { IsTrue (rises field_below fields.items) }
+    ensures { OnOk result (out.new.items ≡ out.old.items ++ record { kind = kind; revision = revision; payload = fields.items } ∷ []) }
+{
+    out.push(Member {
+        kind,
+        revision,
+        fields,
+    })?;
+    Ok(())
 }
 
 fn split(
     alloc: Global,
     parts: &[Template],
-    member: &Member,
+    source: &[Field],
     out: &mut Vec<Member>,
 ) -> Result<(), NoMemory>
-    ensures { OnOk result (out.new.items ≡ out.old.items ++ map (event_of_template member.now.payload) parts.now) }
+    ensures { OnOk result (out.new.items ≡ out.old.items ++ map (event_of_template source.now) parts.now) }
 {
     for part in parts {
-        out.push(Member::of_template(alloc, part, &member.fields)?)?;
+        out.push(Member::of_template(alloc, part, source)?)?;
     }
     Ok(())
 }

@@ -1,6 +1,6 @@
 use Rattle.std.proofs.Common.{◌∙◌, sym, ap}
 use Rattle.ax_segments.specs.Segments.{same_segment}
-use Rattle.ax_claims.proofs.Places.{low-at}
+use Rattle.ax_claims.proofs.RowPlaces.{low-at}
 use Rattle.ax_claims.proofs.rows.place_of.Goals as goal
 
 pub returns-then-eq-clause-low : goal.returns-then-eq-clause-low

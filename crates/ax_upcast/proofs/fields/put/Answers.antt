@@ -1,29 +1,20 @@
-use Rattle.std.proofs.Common.{◌≡◌, true, false, sym, ◌∙◌, arith}
-use Rattle.std.specs.List.{slice_get}
-use Rattle.std.proofs.lemmas.List.Sums.{prefix_len-le-length}
-use Rattle.ax_upcast.specs.Fields.{stands_before, is_named}
-use Rattle.ax_upcast.proofs.Rising.{put-same_at, put-other_at, rises-set_at, rises-insert_at}
+use Rattle.std.proofs.Common.{◌∙◌}
+use Rattle.ax_values.specs.Words.{field_cmp}
+use Rattle.ax_values.proofs.Rising.{rises-nondecreasing}
+use Rattle.ax_upcast.proofs.Rising.{field_total, put-there, put-between}
 use Rattle.ax_upcast.proofs.fields.put.Goals as goal
 
-pub insert-requires : goal.insert-requires
-insert-requires c =
-    let bound = prefix_len-le-length (stands_before c.args.field.name) c.deref.result.now in
-    omega (arith, bound, c.deref.ensures.len, c.count_below-place.ensures)
+pub returns-in-Ok : goal.returns-in-Ok
+returns-in-Ok c =
+    let bound = rw c.deref.ensures.value at c.in-Ok.ensures.bound in
+    let place = rw c.deref.ensures.value at c.in-Ok.ensures.place in
+    let made = put-there c.args.field c.args.fields.now.items c.in-Ok.place c.requires bound (place c.args.field) in
+    record { ok = made.0; rising = made.1 }
 
-pub returns-then-has_at : goal.returns-then-has_at
-returns-then-has_at c =
-    let place = rw c.deref.ensures.value at c.count_below-place.ensures in
-    let named : is_named c.args.field.name (slice_get c.args.fields.now.items c.count_below-place.result) ≡ true = rw c.deref-2.ensures.value at (sym c.has_at.ensures ∙ c.if-has_at.true) in
-    record {
-      ok = put-same_at c.args.field c.args.fields.now.items c.count_below-place.result place named;
-      rising = rises-set_at c.args.field c.args.fields.now.items c.count_below-place.result place named c.requires;
-    }
-
-pub returns-in_ok-insert : goal.returns-in_ok-insert
-returns-in_ok-insert c =
-    let place = rw c.deref.ensures.value at c.count_below-place.ensures in
-    let apart : is_named c.args.field.name (slice_get c.args.fields.now.items c.count_below-place.result) ≡ false = rw c.deref-2.ensures.value at (sym c.has_at.ensures ∙ c.if-has_at.false) in
-    record {
-      ok = c.in_ok-insert.ensures.items ∙ put-other_at c.args.field c.args.fields.now.items c.count_below-place.result place apart;
-      rising = rw c.in_ok-insert.ensures.items (rises-insert_at c.args.field c.args.fields.now.items c.count_below-place.result place apart c.requires);
-    }
+pub returns-in_ok-insert-in-Err : goal.returns-in_ok-insert-in-Err
+returns-in_ok-insert-in-Err c =
+    let bound = rw c.deref.ensures.value at c.in-Err.ensures.bound in
+    let place = rw c.deref.ensures.value at c.in-Err.ensures.place in
+    let fields = c.args.fields.now.items in
+    let made = put-between c.args.field fields c.in-Err.place c.requires bound (place (rises-nondecreasing field_cmp field_total c.args.field fields c.requires)) in
+    record { ok = c.in_ok-insert-in-Err.ensures.items ∙ made.0; rising = rw c.in_ok-insert-in-Err.ensures.items made.1 }

@@ -5,4 +5,4 @@ use Rattle.ax_tokens.proofs.token.Token.write.Goals as goal
 
 pub returns-clause-again : goal.returns-clause-again
 unfolding IsReadBack
-returns-clause-again c = again (token_of c.args.self.now) c.requires c.keep.ensures.canonical c.keep.ensures.small
+returns-clause-again c = again (token_of c.args.self.now) c.requires c.facts.ensures.canonical c.facts.ensures.small

@@ -6,7 +6,7 @@ use Rattle.ax_log.specs.Log.{put_at, put_cells}
 use Rattle.ax_log.specs.Order.{IsOrdered}
 use Rattle.ax_log.specs.Puts.{LogView, HasRoom, CanPutAll, put_all, puts_at, after_put}
 use Rattle.ax_log.specs.declared.put.CellPut.{CellPut}
-use Rattle.ax_log.proofs.Puts.{put, put_at-put, grown-put}
+use Rattle.ax_log.proofs.CellPutLaws.{put, put_at-put, grown-put}
 
 put_cells-none : (i : ℕ) (cells : List Cell) → i ≤ length cells → put_cells i [] cells ≡ cells
 put_cells-none zero cells h = refl

@@ -6,7 +6,7 @@ use Rattle.std.specs.declared.cmp.Ordering.TheVariants.{Equal, Greater}
 use Rattle.std.proofs.lemmas.Cmp.{tied_itself}
 use Rattle.std.proofs.lemmas.Bool.Decides.{nat_tests}
 use Rattle.ax_values.specs.Words.{rises, place_where}
-use Rattle.ax_values.proofs.Options.{both}
+use Rattle.ax_laws.proofs.Tests.{both}
 use Rattle.ax_segments.specs.Segments.{Segment, matches, same_segment, segment_cmp}
 use Rattle.ax_segments.specs.Orders.{segment_cmp_total}
 use Rattle.ax_claims.specs.Rows.{TokenRow, AreRows, row_cmp, row_below, row_at, put_row, place_at, place_if}
@@ -31,7 +31,7 @@ get-read [] p x lt e = absurd (omega arith)
 get-read (y ∷ ys) zero x lt e = ap Some (sym e)
 get-read (y ∷ ys) (suc p) x lt e = get-read ys p x (omega arith) e
 
-same-segment : (s t : Segment) → same_segment s t ≡ true → s ≡ t
+pub same-segment : (s t : Segment) → same_segment s t ≡ true → s ≡ t
 same-segment s t h =
     let id : s.id ≡ t.id = grind (arith, nat_tests, (both (s.id == t.id) (s.mask == t.mask) h).0) in
     let mask : s.mask ≡ t.mask = grind (arith, nat_tests, (both (s.id == t.id) (s.mask == t.mask) h).1) in
