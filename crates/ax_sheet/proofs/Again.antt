@@ -6,25 +6,29 @@ use Rattle.serde_json.specs.Data.{Data, string, object, Items, no_items, item, M
 use Rattle.serde_json.specs.Find.{as_array, as_object, as_bool, get}
 use Rattle.serde_json.specs.View.{items_of}
 use Rattle.ax_values.specs.Grammar.{Name, name_in}
-use Rattle.ax_values.proofs.Options.{both, when-some, when-true, then-some, map-some}
+use Rattle.ax_laws.proofs.Tests.{both}
+use Rattle.ax_laws.proofs.Options.{some-is}
+use Rattle.ax_values.proofs.Options.{when-some, when-true, then-some, map-some}
 use Rattle.ax_rules.specs.Rules.{Rules}
 use Rattle.ax_rules.specs.declared.guard.Guard.{Guard}
 use Rattle.ax_rules.specs.declared.rule.Set.{Set}
 use Rattle.ax_rules.specs.declared.rule.Rule.{Rule}
 use Rattle.ax_rules.specs.declared.rules.Initial.{Initial}
-use Rattle.ax_upcast.specs.Upcast.{is_few}
+use Rattle.ax_upcast.specs.Upcast.{keeps_limit}
 use Rattle.ax_upcast.specs.declared.event.Template.{Template}
 use Rattle.ax_upcast.specs.declared.upcaster.Act.{Act}
 use Rattle.ax_upcast.specs.declared.upcaster.Upcaster.{Upcaster}
-use Rattle.ax_sheet.specs.Members.{Pair, small_of, name_of, each_item, list_of, pair_of, each_member, named_of, object_of, wanted, or_empty, optional, is_there}
-use Rattle.ax_sheet.specs.Names.{anything, is_param, is_int_param}
-use Rattle.ax_sheet.specs.Sheet.{fits_record}
-use Rattle.ax_sheet.specs.declared.params.Param.{Param}
-use Rattle.ax_sheet.specs.declared.parts.NamedCommand.{NamedCommand}
-use Rattle.ax_sheet.specs.Shape.{guards_of, sets_of, fields_of, rule_keys, rule_of, two_keys, rules_of, templates_of, params_of, events_of, command_keys, command_of, act_of, upcaster_keys, upcaster_of, most_upcasters, chain_of}
-use Rattle.ax_sheet.specs.Text.{list_data, two_data, named_data, small_data, guards_data, sets_data, fields_data, rule_data, rules_data, template_data, params_data, command_data, act_data, upcaster_data}
+use Rattle.ax_sheet_rules.specs.Members.{Pair, small_of, name_of, each_item, list_of, pair_of, each_member, named_of, object_of, wanted, or_empty, optional, is_there}
+use Rattle.ax_sheet_rules.specs.Names.{anything, is_param, is_int_param}
+use Rattle.ax_sheet_parts.specs.Sheet.{fits_record}
+use Rattle.ax_sheet_parts.specs.declared.params.Param.{Param}
+use Rattle.ax_sheet_parts.specs.declared.parts.NamedCommand.{NamedCommand}
+use Rattle.ax_sheet_rules.specs.Shape.{guards_of, sets_of, fields_of, rule_keys, rule_of, two_keys, rules_of, templates_of, params_of, events_of, command_keys, command_of, act_of, upcaster_keys, upcaster_of, most_upcasters, chain_of}
+use Rattle.ax_sheet_writing.specs.Text.{list_data, two_data, named_data, small_data, guards_data, sets_data, fields_data, rule_data, rules_data, template_data, params_data, command_data, act_data, upcaster_data}
+use Rattle.ax_sheet_rules.proofs.Apart.{rule_parts}
+use Rattle.ax_sheet_reading.proofs.Apart.{command_parts}
 use Rattle.ax_sheet.proofs.Proper.{leads, proper, items_proper, members_proper}
-use Rattle.ax_sheet.proofs.Same.{some_is, array_is, object_is, small_same, name_is, name_same, two_parts, plain, in_order}
+use Rattle.ax_sheet.proofs.Same.{array_is, object_is, small_same, name_is, name_same, two_parts, plain, in_order}
 use Rattle.ax_sheet.proofs.SameParts.{guards_same, sets_same, fields_same, templates_same, params_same, act_same}
 use Rattle.ax_sheet.proofs.Objects.{then-is, Row, row, total, count_keys, Built, no_more, with_member, list_opt, flag_opt, with_list, with_flag, object_again, object_low, Back, wanted_again, optional_again, inner, whole_object, opened, wanted_read, read_same, read_back, Kept, kept, nothing_else}
 
@@ -33,7 +37,7 @@ use Rattle.ax_sheet.proofs.Objects.{then-is, Row, row, total, count_keys, Built,
 items_back : {A : Type 0} (one : Data → Option A) (write : A → Data) → ((d : Data) (x : A) → proper d ≡ true → one d ≡ Some x → Back one (depth d) x (write x)) → (ds : Items) (xs : List A) → items_proper ds ≡ true →
     each_item one ds ≡ Some xs → (each_item one (items_of (map write xs)) ≡ Some xs) × (items_depth (items_of (map write xs)) ≤ items_depth ds)
 items_back one write back no_items xs p h =
-    let e = some_is [] xs h in subst (λ xs. (each_item one (items_of (map write xs)) ≡ Some xs) × (items_depth (items_of (map write xs)) ≤ 0)) e (refl, omega arith)
+    let e = some-is [] xs h in subst (λ xs. (each_item one (items_of (map write xs)) ≡ Some xs) × (items_depth (items_of (map write xs)) ≤ 0)) e (refl, omega arith)
 items_back one write back (item d ds) xs p h =
     let b = both (proper d) (items_proper ds) p in
     let x = then-some (one d) _ xs h in
@@ -62,7 +66,7 @@ plain_back : {A : Type 0} (one : Name → Data → Option A) (name : A → Name)
     ((n : Name) (d : Data) (x : A) → proper d ≡ true → one n d ≡ Some x → Back (one n) (depth d) x (write x)) → (ms : Members) (xs : List A) → members_proper ms ≡ true → each_member one ms ≡ Some xs →
     (each_member one (plain name write xs) ≡ Some xs) × (members_depth (plain name write xs) ≤ members_depth ms)
 plain_back one name write named back no_members xs p h =
-    let e = some_is [] xs h in subst (λ xs. (each_member one (plain name write xs) ≡ Some xs) × (members_depth (plain name write xs) ≤ 0)) e (refl, omega arith)
+    let e = some-is [] xs h in subst (λ xs. (each_member one (plain name write xs) ≡ Some xs) × (members_depth (plain name write xs) ≤ 0)) e (refl, omega arith)
 plain_back one name write named back (member l d ms) xs p h =
     let b = both (proper d) (leads l ms && members_proper ms) p in
     let c = both (leads l ms) (members_proper ms) b.1 in
@@ -103,7 +107,7 @@ Quiet true b = ⊤
 Quiet false b = b ≡ false
 
 quiet_by : (o : Option Data) (b : Bool) → o ≡ None → or_empty false as_bool o ≡ Some b → b ≡ false
-quiet_by None b e h = sym (some_is false b h)
+quiet_by None b e h = sym (some-is false b h)
 quiet_by (Some d) b e h = cc
 
 quiet : (announcing : Bool) (d o : Data) (b : Bool) → object_of (rule_keys announcing) d ≡ Some o → optional (codes "announce") false as_bool o ≡ Some b → Quiet announcing b
@@ -150,25 +154,15 @@ rule_kept announcing fs n gs ss b m k e g s q =
     record { again = rule_reads announcing fs n gs ss b m _ built g s q; low = object_low k built e }
 
 rule_back : (announcing : Bool) (fs : List Initial) (n : Name) (d : Data) (r : Rule) → proper d ≡ true → rule_of announcing fs n d ≡ Some r → Back (rule_of announcing fs n) (depth d) r (rule_data fs r)
-unfolding rule_of
 rule_back announcing fs n d r p h =
-    let o = then-some (object_of (rule_keys announcing) d) _ r h in
-    let gs = then-some (optional (codes "guards") [] (guards_of fs anything) o.from) _ r o.gives in
-    let ss = then-some (optional (codes "sets") [] (sets_of fs anything) o.from) _ r gs.gives in
-    let b = then-some (optional (codes "announce") false as_bool o.from) _ r ss.gives in
-    let w = opened (rule_keys announcing) d o.from p o.held in
-    subst (λ r. Back (rule_of announcing fs n) (depth d) r (rule_data fs r)) (some_is _ r b.gives)
-    (rule_kept announcing fs n gs.from ss.from b.from (inner o.from) (depth d) w.deep (kept (codes "guards") (guards_of fs anything) (guards_data fs) o.from gs.from (guards_same fs anything) w.good gs.held)
-    (kept (codes "sets") (sets_of fs anything) (sets_data fs) o.from ss.from (sets_same fs anything) w.good ss.held) (quiet announcing d o.from b.from o.held b.held))
+    let q = rule_parts announcing fs n d r h in
+    let w = opened (rule_keys announcing) d q.object p q.is_object in
+    subst (λ r. Back (rule_of announcing fs n) (depth d) r (rule_data fs r)) (sym q.made)
+    (rule_kept announcing fs n q.guards q.sets q.announce (inner q.object) (depth d) w.deep (kept (codes "guards") (guards_of fs anything) (guards_data fs) q.object q.guards (guards_same fs anything) w.good q.is_guards)
+    (kept (codes "sets") (sets_of fs anything) (sets_data fs) q.object q.sets (sets_same fs anything) w.good q.is_sets) (quiet announcing d q.object q.announce q.is_object q.is_announce))
 
 rule_named : (announcing : Bool) (fs : List Initial) (n : Name) (d : Data) (r : Rule) → rule_of announcing fs n d ≡ Some r → r.kind ≡ n
-unfolding rule_of
-rule_named announcing fs n d r h =
-    let o = then-some (object_of (rule_keys announcing) d) _ r h in
-    let gs = then-some (optional (codes "guards") [] (guards_of fs anything) o.from) _ r o.gives in
-    let ss = then-some (optional (codes "sets") [] (sets_of fs anything) o.from) _ r gs.gives in
-    let b = then-some (optional (codes "announce") false as_bool o.from) _ r ss.gives in
-    ap (λ (r : Rule). r.kind) (sym (some_is _ r b.gives))
+rule_named announcing fs n d r h = ap (λ (r : Rule). r.kind) (rule_parts announcing fs n d r h).made
 
 abbrev pub two_rows : Data → Data → List Row
 two_rows on fields = row (codes "on") (Some on) ∷ row (codes "fields") (Some fields) ∷ []
@@ -196,7 +190,7 @@ rules_back announcing d r p h =
     let fs = then-some (wanted (codes "fields") fields_of o.from) _ r o.gives in
     let rs = then-some (wanted (codes "on") (named_of (rule_of announcing fs.from)) o.from) _ r fs.gives in
     let w = opened two_keys d o.from p o.held in
-    subst (λ r. Back (rules_of announcing) (depth d) r (rules_data r)) (some_is _ r rs.gives)
+    subst (λ r. Back (rules_of announcing) (depth d) r (rules_data r)) (some-is _ r rs.gives)
     (rules_kept announcing fs.from rs.from (inner o.from) (depth d) w.deep
     (read_same fields_of (inner o.from) fs.from (fields_data fs.from) (λ d p h. fields_same d fs.from p h) (wanted_read (codes "fields") fields_of o.from fs.from w.good fs.held))
     (read_back (named_of (rule_of announcing fs.from)) (inner o.from) rs.from (named_data (λ (x : Rule). x.kind) (rule_data fs.from) rs.from)
@@ -234,28 +228,18 @@ events_same ps d ts p h =
     templates_same (is_param ps) d ts p (l.held ∙ ap Some w.1)
 
 pub command_back : (fs : List Initial) (n : Name) (d : Data) (c : NamedCommand) → proper d ≡ true → command_of fs n d ≡ Some c → Back (command_of fs n) (depth d) c (command_data fs c.command)
-unfolding command_of
 command_back fs n d c p h =
-    let o = then-some (object_of command_keys d) _ c h in
-    let ps = then-some (wanted (codes "params") params_of o.from) _ c o.gives in
-    let gs = then-some (wanted (codes "guards") (guards_of fs (is_int_param ps.from)) o.from) _ c ps.gives in
-    let ts = then-some (wanted (codes "events") (events_of ps.from) o.from) _ c gs.gives in
-    let w = opened command_keys d o.from p o.held in
-    subst (λ (c : NamedCommand). Back (command_of fs n) (depth d) c (command_data fs c.command)) (some_is _ c ts.gives)
-    (command_kept fs n ps.from gs.from ts.from (inner o.from) (depth d) w.deep
-    (read_same params_of (inner o.from) ps.from (params_data ps.from) (λ d p h. params_same d ps.from p h) (wanted_read (codes "params") params_of o.from ps.from w.good ps.held))
-    (read_same (guards_of fs (is_int_param ps.from)) (inner o.from) gs.from (guards_data fs gs.from) (λ d p h. guards_same fs (is_int_param ps.from) d gs.from p h)
-    (wanted_read (codes "guards") (guards_of fs (is_int_param ps.from)) o.from gs.from w.good gs.held))
-    (read_same (events_of ps.from) (inner o.from) ts.from (list_data template_data ts.from) (λ d p h. events_same ps.from d ts.from p h) (wanted_read (codes "events") (events_of ps.from) o.from ts.from w.good ts.held)))
+    let q = command_parts fs n d c h in
+    let w = opened command_keys d q.object p q.is_object in
+    subst (λ (c : NamedCommand). Back (command_of fs n) (depth d) c (command_data fs c.command)) (sym q.made)
+    (command_kept fs n q.params q.guards q.events (inner q.object) (depth d) w.deep
+    (read_same params_of (inner q.object) q.params (params_data q.params) (λ d p h. params_same d q.params p h) (wanted_read (codes "params") params_of q.object q.params w.good q.is_params))
+    (read_same (guards_of fs (is_int_param q.params)) (inner q.object) q.guards (guards_data fs q.guards) (λ d p h. guards_same fs (is_int_param q.params) d q.guards p h)
+    (wanted_read (codes "guards") (guards_of fs (is_int_param q.params)) q.object q.guards w.good q.is_guards))
+    (read_same (events_of q.params) (inner q.object) q.events (list_data template_data q.events) (λ d p h. events_same q.params d q.events p h) (wanted_read (codes "events") (events_of q.params) q.object q.events w.good q.is_events)))
 
 pub command_known : (fs : List Initial) (n : Name) (d : Data) (c : NamedCommand) → command_of fs n d ≡ Some c → c.name ≡ n
-unfolding command_of
-command_known fs n d c h =
-    let o = then-some (object_of command_keys d) _ c h in
-    let ps = then-some (wanted (codes "params") params_of o.from) _ c o.gives in
-    let gs = then-some (wanted (codes "guards") (guards_of fs (is_int_param ps.from)) o.from) _ c ps.gives in
-    let ts = then-some (wanted (codes "events") (events_of ps.from) o.from) _ c gs.gives in
-    ap (λ (c : NamedCommand). c.name) (sym (some_is _ c ts.gives))
+command_known fs n d c h = ap (λ (c : NamedCommand). c.name) (command_parts fs n d c h).made
 
 -- ---- upcasters
 
@@ -302,7 +286,7 @@ upcaster_back d u p h =
     let w = opened upcaster_keys d o.from p o.held in
     let start = read_same pair_of (inner o.from) from.from (two_data (string kind.from) (small_data revision.from)) (λ d p h. start_same d from.from kind.from revision.from p h kind.held revision.held)
     (wanted_read (codes "from") pair_of o.from from.from w.good from.held) in
-    subst (λ u. Back upcaster_of (depth d) u (upcaster_data u)) (some_is _ u act.gives)
+    subst (λ u. Back upcaster_of (depth d) u (upcaster_data u)) (some-is _ u act.gives)
     (upcaster_kept from.from kind.from revision.from act.from (inner o.from) (depth d) w.deep (record { kind_is = kind.held; revision_is = revision.held; back = start })
     (read_same act_of (inner o.from) act.from (act_data act.from) (λ d p h. act_same d act.from p h) (wanted_read (codes "do") act_of o.from act.from w.good act.held)))
 
@@ -310,10 +294,10 @@ pub chain_back : (d : Data) (us : List Upcaster) → proper d ≡ true → chain
 unfolding chain_of
 chain_back d us p h =
     let l = then-some (list_of upcaster_of d) _ us h in
-    let w = when-some (nat_le (length l.from) most_upcasters && is_few l.from) l.from us l.gives in
+    let w = when-some (nat_le (length l.from) most_upcasters && keeps_limit l.from) l.from us l.gives in
     let b = list_back upcaster_of upcaster_data upcaster_back d us p (l.held ∙ ap Some w.1) in
     record {
       again = then-is (list_of upcaster_of (list_data upcaster_data us)) _ us us b.again
-          (when-true (nat_le (length us) most_upcasters && is_few us) us (ap (λ us. nat_le (length us) most_upcasters && is_few us) (sym w.1) ∙ w.0));
+          (when-true (nat_le (length us) most_upcasters && keeps_limit us) us (ap (λ us. nat_le (length us) most_upcasters && keeps_limit us) (sym w.1) ∙ w.0));
       low = b.low;
     }

@@ -6,7 +6,8 @@ use Rattle.serde_json.specs.Find.{as_bool}
 use Rattle.serde_json.specs.Read.{max_depth, read}
 use Rattle.serde_json.proofs.Nesting.{depth-read}
 use Rattle.ax_values.specs.Grammar.{Name, Line, when}
-use Rattle.ax_values.proofs.Options.{when-some, when-true, then-some, map-some}
+use Rattle.ax_laws.proofs.Options.{some-is}
+use Rattle.ax_values.proofs.Options.{when-true, then-some, map-some}
 use Rattle.ax_rules.specs.Rules.{Rules}
 use Rattle.ax_rules.specs.declared.guard.Guard.{Guard}
 use Rattle.ax_rules.specs.declared.rule.Set.{Set}
@@ -16,17 +17,18 @@ use Rattle.ax_rules.specs.declared.saga_rules.Association.{Association}
 use Rattle.ax_rules.specs.declared.saga_rules.Dispatch.{Dispatch}
 use Rattle.ax_rules.specs.declared.saga_rules.Handler.{Handler}
 use Rattle.ax_upcast.specs.declared.upcaster.Upcaster.{Upcaster}
-use Rattle.ax_sheet.specs.Members.{small_of, name_of, list_of, named_of, object_of, wanted, optional, is_there}
-use Rattle.ax_sheet.specs.Names.{anything}
-use Rattle.ax_sheet.specs.Sheet.{Sheet}
-use Rattle.ax_sheet.specs.declared.parts.NamedCommand.{NamedCommand}
-use Rattle.ax_sheet.specs.declared.parts.NamedRules.{NamedRules}
-use Rattle.ax_sheet.specs.declared.parts.NamedSaga.{NamedSaga}
-use Rattle.ax_sheet.specs.Shape.{guards_of, sets_of, fields_of, two_keys, rules_of, command_of, chain_of, key_of, association_of, dispatch_of, handler_keys, handler_of, saga_of, projection_of, sheet_keys, are_apart, sheet_around, sheet_of, json_in, sheet_in, IsSheet}
-use Rattle.ax_sheet.specs.Text.{list_data, named_data, small_data, guards_data, sets_data, fields_data, rules_data, command_data, upcaster_data, key_data, association_data, dispatch_data, changes_data, handler_data, saga_data, head_data, sheet_data}
+use Rattle.ax_sheet_rules.specs.Members.{small_of, name_of, list_of, named_of, object_of, wanted, optional, is_there}
+use Rattle.ax_sheet_rules.specs.Names.{anything}
+use Rattle.ax_sheet_parts.specs.Sheet.{Sheet}
+use Rattle.ax_sheet_parts.specs.declared.parts.NamedCommand.{NamedCommand}
+use Rattle.ax_sheet_parts.specs.declared.parts.NamedRules.{NamedRules}
+use Rattle.ax_sheet_parts.specs.declared.parts.NamedSaga.{NamedSaga}
+use Rattle.ax_sheet_rules.specs.Shape.{guards_of, sets_of, fields_of, two_keys, rules_of, command_of, chain_of, key_of, association_of, dispatch_of, handler_keys, handler_of, saga_of, projection_of, sheet_keys, are_apart, sheet_around, sheet_of, json_in, sheet_in, IsSheet}
+use Rattle.ax_sheet_writing.specs.Text.{list_data, named_data, small_data, guards_data, sets_data, fields_data, rules_data, command_data, upcaster_data, key_data, association_data, dispatch_data, changes_data, handler_data, saga_data, head_data, sheet_data}
+use Rattle.ax_sheet_reading.proofs.Apart.{handler_parts, sheet_parts}
 use Rattle.ax_sheet.proofs.Proper.{proper, read_proper}
-use Rattle.ax_sheet.proofs.Sheets.{json_read}
-use Rattle.ax_sheet.proofs.Same.{some_is, small_same, name_same}
+use Rattle.ax_sheet_reading.proofs.Texts.{json_read}
+use Rattle.ax_sheet.proofs.Same.{small_same, name_same}
 use Rattle.ax_sheet.proofs.SameParts.{guards_same, sets_same, fields_same, key_same, associations_same, dispatches_same}
 use Rattle.ax_sheet.proofs.Objects.{then-is, Row, row, Built, no_more, with_member, list_opt, flag_opt, with_list, with_flag, object_again, object_low, Back, wanted_again, optional_again, inner, opened, wanted_read, read_same, read_back, Kept, kept}
 use Rattle.ax_sheet.proofs.Again.{flag_again, two_rows, named_back, rules_back, command_back, command_known, chain_back}
@@ -80,41 +82,21 @@ handler_kept cs fs n by start gs ss links ds xs end m k e h =
     record { again = handler_reads cs fs n by start gs ss links ds xs end m _ built h; low = object_low k built e }
 
 handler_back : (cs : List NamedCommand) (fs : List Initial) (n : Name) (d : Data) (r : Handler) → proper d ≡ true → handler_of cs fs n d ≡ Some r → Back (handler_of cs fs n) (depth d) r (handler_data fs r)
-unfolding handler_of
 handler_back cs fs n d r p h =
-    let o = then-some (object_of handler_keys d) _ r h in
-    let by = then-some (wanted (codes "by") key_of o.from) _ r o.gives in
-    let start = then-some (optional (codes "start") false as_bool o.from) _ r by.gives in
-    let gs = then-some (optional (codes "guards") [] (guards_of fs anything) o.from) _ r start.gives in
-    let ss = then-some (optional (codes "sets") [] (sets_of fs anything) o.from) _ r gs.gives in
-    let associate = then-some (optional (codes "associate") [] (list_of association_of) o.from) _ r ss.gives in
-    let dissociate = then-some (optional (codes "dissociate") [] (list_of association_of) o.from) _ r associate.gives in
-    let send = then-some (optional (codes "send") [] (list_of (dispatch_of cs)) o.from) _ r dissociate.gives in
-    let end = then-some (optional (codes "end") false as_bool o.from) _ r send.gives in
-    let w = opened handler_keys d o.from p o.held in
-    subst (λ r. Back (handler_of cs fs n) (depth d) r (handler_data fs r)) (some_is _ r end.gives)
-    (handler_kept cs fs n by.from start.from gs.from ss.from associate.from dissociate.from send.from end.from (inner o.from) (depth d) w.deep (record {
-      key = read_same key_of (inner o.from) by.from (key_data by.from) (λ d p h. key_same d by.from p h) (wanted_read (codes "by") key_of o.from by.from w.good by.held);
-      guards = kept (codes "guards") (guards_of fs anything) (guards_data fs) o.from gs.from (guards_same fs anything) w.good gs.held;
-      sets = kept (codes "sets") (sets_of fs anything) (sets_data fs) o.from ss.from (sets_same fs anything) w.good ss.held;
-      associate = kept (codes "associate") (list_of association_of) (list_data association_data) o.from associate.from associations_same w.good associate.held;
-      dissociate = kept (codes "dissociate") (list_of association_of) (list_data association_data) o.from dissociate.from associations_same w.good dissociate.held;
-      send = kept (codes "send") (list_of (dispatch_of cs)) (list_data dispatch_data) o.from send.from (dispatches_same cs) w.good send.held;
+    let q = handler_parts cs fs n d r h in
+    let w = opened handler_keys d q.object p q.is_object in
+    subst (λ r. Back (handler_of cs fs n) (depth d) r (handler_data fs r)) (sym q.made)
+    (handler_kept cs fs n q.by q.start q.guards q.sets q.associate q.dissociate q.send q.end (inner q.object) (depth d) w.deep (record {
+      key = read_same key_of (inner q.object) q.by (key_data q.by) (λ d p h. key_same d q.by p h) (wanted_read (codes "by") key_of q.object q.by w.good q.is_by);
+      guards = kept (codes "guards") (guards_of fs anything) (guards_data fs) q.object q.guards (guards_same fs anything) w.good q.is_guards;
+      sets = kept (codes "sets") (sets_of fs anything) (sets_data fs) q.object q.sets (sets_same fs anything) w.good q.is_sets;
+      associate = kept (codes "associate") (list_of association_of) (list_data association_data) q.object q.associate associations_same w.good q.is_associate;
+      dissociate = kept (codes "dissociate") (list_of association_of) (list_data association_data) q.object q.dissociate associations_same w.good q.is_dissociate;
+      send = kept (codes "send") (list_of (dispatch_of cs)) (list_data dispatch_data) q.object q.send (dispatches_same cs) w.good q.is_send;
     }))
 
 handler_named : (cs : List NamedCommand) (fs : List Initial) (n : Name) (d : Data) (r : Handler) → handler_of cs fs n d ≡ Some r → r.kind ≡ n
-unfolding handler_of
-handler_named cs fs n d r h =
-    let o = then-some (object_of handler_keys d) _ r h in
-    let by = then-some (wanted (codes "by") key_of o.from) _ r o.gives in
-    let start = then-some (optional (codes "start") false as_bool o.from) _ r by.gives in
-    let gs = then-some (optional (codes "guards") [] (guards_of fs anything) o.from) _ r start.gives in
-    let ss = then-some (optional (codes "sets") [] (sets_of fs anything) o.from) _ r gs.gives in
-    let associate = then-some (optional (codes "associate") [] (list_of association_of) o.from) _ r ss.gives in
-    let dissociate = then-some (optional (codes "dissociate") [] (list_of association_of) o.from) _ r associate.gives in
-    let send = then-some (optional (codes "send") [] (list_of (dispatch_of cs)) o.from) _ r dissociate.gives in
-    let end = then-some (optional (codes "end") false as_bool o.from) _ r send.gives in
-    ap (λ (r : Handler). r.kind) (sym (some_is _ r end.gives))
+handler_named cs fs n d r h = ap (λ (r : Handler). r.kind) (handler_parts cs fs n d r h).made
 
 saga_reads : (cs : List NamedCommand) (n : Name) (fs : List Initial) (hs : List Handler) (on fields : Data) (m : ℕ) (ms : Members) → Built m ms (two_rows on fields) → Back fields_of m fs fields →
     Back (named_of (handler_of cs fs)) m hs on → saga_of cs n (object ms) ≡ Some (record { name = n; rules = record { fields = fs; handlers = hs } })
@@ -139,20 +121,20 @@ saga_back cs n d s p h =
     let fs = then-some (wanted (codes "fields") fields_of o.from) _ s o.gives in
     let hs = then-some (wanted (codes "on") (named_of (handler_of cs fs.from)) o.from) _ s fs.gives in
     let w = opened two_keys d o.from p o.held in
-    subst (λ (s : NamedSaga). Back (saga_of cs n) (depth d) s (saga_data s.rules)) (some_is _ s hs.gives)
+    subst (λ (s : NamedSaga). Back (saga_of cs n) (depth d) s (saga_data s.rules)) (some-is _ s hs.gives)
     (saga_kept cs n fs.from hs.from (inner o.from) (depth d) w.deep
     (read_same fields_of (inner o.from) fs.from (fields_data fs.from) (λ d p h. fields_same d fs.from p h) (wanted_read (codes "fields") fields_of o.from fs.from w.good fs.held))
     (read_back (named_of (handler_of cs fs.from)) (inner o.from) hs.from (named_data (λ (h : Handler). h.kind) (handler_data fs.from) hs.from)
     (λ d p h. named_back (handler_of cs fs.from) (λ (h : Handler). h.kind) (handler_data fs.from) (handler_named cs fs.from) (handler_back cs fs.from) d hs.from p h)
     (wanted_read (codes "on") (named_of (handler_of cs fs.from)) o.from hs.from w.good hs.held)))
 
-saga_named : (cs : List NamedCommand) (n : Name) (d : Data) (s : NamedSaga) → saga_of cs n d ≡ Some s → s.name ≡ n
+pub saga_named : (cs : List NamedCommand) (n : Name) (d : Data) (s : NamedSaga) → saga_of cs n d ≡ Some s → s.name ≡ n
 unfolding saga_of
 saga_named cs n d s h =
     let o = then-some (object_of two_keys d) _ s h in
     let fs = then-some (wanted (codes "fields") fields_of o.from) _ s o.gives in
     let hs = then-some (wanted (codes "on") (named_of (handler_of cs fs.from)) o.from) _ s fs.gives in
-    ap (λ (s : NamedSaga). s.name) (sym (some_is _ s hs.gives))
+    ap (λ (s : NamedSaga). s.name) (sym (some-is _ s hs.gives))
 
 -- ---- projections
 
@@ -163,7 +145,7 @@ projection_back n d x p h =
     let b = rules_back true d r.from p r.held in
     subst (λ (x : NamedRules). Back (projection_of n) (depth d) x (rules_data x.rules)) r.gives (record { again = ap (option_map (λ rules. record { name = n; rules = rules })) b.again; low = b.low })
 
-projection_named : (n : Name) (d : Data) (x : NamedRules) → projection_of n d ≡ Some x → x.name ≡ n
+pub projection_named : (n : Name) (d : Data) (x : NamedRules) → projection_of n d ≡ Some x → x.name ≡ n
 unfolding projection_of
 projection_named n d x h = let r = map-some (rules_of true d) _ x h in ap (λ (x : NamedRules). x.name) (sym r.gives)
 
@@ -229,41 +211,33 @@ sheet_kept name revision a cs us ps ss m k e h =
     (with_member (codes "sheet") (string name) h.called.low (no_more m))))))) in
     record { again = sheet_reads name revision a cs us ps ss m _ built h; low = object_low k built e }
 
-around_back : (name : Name) (revision : ℕ) (a : Rules) (d o : Data) (s : Sheet) → proper o ≡ true → depth d ≡ suc (inner o) → wanted (codes "sheet") name_of o ≡ Some name → wanted (codes "revision") small_of o ≡ Some revision →
-    wanted (codes "aggregate") (rules_of false) o ≡ Some a → sheet_around name revision a o ≡ Some s → Back sheet_of (depth d) s (sheet_data s)
-unfolding sheet_around
-around_back name revision a d o s p deep n r g h =
-    let cs = then-some (wanted (codes "commands") (named_of (command_of a.fields)) o) _ s h in
-    let us = then-some (wanted (codes "upcast") chain_of o) _ s cs.gives in
-    let ps = then-some (wanted (codes "projections") (named_of projection_of) o) _ s us.gives in
-    let ss = then-some (wanted (codes "sagas") (named_of (saga_of cs.from)) o) _ s ps.gives in
-    let w = when-some (are_apart ps.from ss.from) _ s ss.gives in
-    subst (λ s. Back sheet_of (depth d) s (sheet_data s)) w.1
-    (sheet_kept name revision a cs.from us.from ps.from ss.from (inner o) (depth d) deep (record {
-      called = read_same name_of (inner o) name (string name) (λ d p h. name_same d name h) (wanted_read (codes "sheet") name_of o name p n);
-      revised = read_same small_of (inner o) revision (small_data revision) (λ d p h. small_same d revision p h) (wanted_read (codes "revision") small_of o revision p r);
-      aggregate = read_back (rules_of false) (inner o) a (rules_data a) (λ d p h. rules_back false d a p h) (wanted_read (codes "aggregate") (rules_of false) o a p g);
-      commands = read_back (named_of (command_of a.fields)) (inner o) cs.from (commands_data a.fields cs.from)
-          (λ d p h. named_back (command_of a.fields) (λ (c : NamedCommand). c.name) (λ c. command_data a.fields c.command) (command_known a.fields) (command_back a.fields) d cs.from p h)
-          (wanted_read (codes "commands") (named_of (command_of a.fields)) o cs.from p cs.held);
-      chain = read_back chain_of (inner o) us.from (list_data upcaster_data us.from) (λ d p h. chain_back d us.from p h) (wanted_read (codes "upcast") chain_of o us.from p us.held);
-      projections = read_back (named_of projection_of) (inner o) ps.from (projections_data ps.from)
-          (λ d p h. named_back projection_of (λ (x : NamedRules). x.name) (λ x. rules_data x.rules) projection_named projection_back d ps.from p h) (wanted_read (codes "projections") (named_of projection_of) o ps.from p ps.held);
-      sagas = read_back (named_of (saga_of cs.from)) (inner o) ss.from (sagas_data ss.from)
-          (λ d p h. named_back (saga_of cs.from) (λ (s : NamedSaga). s.name) (λ s. saga_data s.rules) (saga_named cs.from) (saga_back cs.from) d ss.from p h)
-          (wanted_read (codes "sagas") (named_of (saga_of cs.from)) o ss.from p ss.held);
-      apart = w.0;
+sheet_back : (d : Data) (s : Sheet) → proper d ≡ true → sheet_of d ≡ Some s → Back sheet_of (depth d) s (sheet_data s)
+sheet_back d s p h =
+    let q = sheet_parts d s h in
+    let w = opened sheet_keys d q.object p q.is_object in
+    let fs = q.aggregate.fields in
+    subst (λ s. Back sheet_of (depth d) s (sheet_data s)) (sym q.made)
+    (sheet_kept q.name q.revision q.aggregate q.commands q.chain q.projections q.sagas (inner q.object) (depth d) w.deep (record {
+      called = read_same name_of (inner q.object) q.name (string q.name) (λ d p h. name_same d q.name h) (wanted_read (codes "sheet") name_of q.object q.name w.good q.is_name);
+      revised = read_same small_of (inner q.object) q.revision (small_data q.revision) (λ d p h. small_same d q.revision p h) (wanted_read (codes "revision") small_of q.object q.revision w.good q.is_revision);
+      aggregate = read_back (rules_of false) (inner q.object) q.aggregate (rules_data q.aggregate) (λ d p h. rules_back false d q.aggregate p h) (wanted_read (codes "aggregate") (rules_of false) q.object q.aggregate w.good q.is_aggregate);
+      commands = read_back (named_of (command_of fs)) (inner q.object) q.commands (commands_data fs q.commands)
+          (λ d p h. named_back (command_of fs) (λ (c : NamedCommand). c.name) (λ c. command_data fs c.command) (command_known fs) (command_back fs) d q.commands p h)
+          (wanted_read (codes "commands") (named_of (command_of fs)) q.object q.commands w.good q.is_commands);
+      chain = read_back chain_of (inner q.object) q.chain (list_data upcaster_data q.chain) (λ d p h. chain_back d q.chain p h) (wanted_read (codes "upcast") chain_of q.object q.chain w.good q.is_chain);
+      projections = read_back (named_of projection_of) (inner q.object) q.projections (projections_data q.projections)
+          (λ d p h. named_back projection_of (λ (x : NamedRules). x.name) (λ x. rules_data x.rules) projection_named projection_back d q.projections p h)
+          (wanted_read (codes "projections") (named_of projection_of) q.object q.projections w.good q.is_projections);
+      sagas = read_back (named_of (saga_of q.commands)) (inner q.object) q.sagas (sagas_data q.sagas)
+          (λ d p h. named_back (saga_of q.commands) (λ (s : NamedSaga). s.name) (λ s. saga_data s.rules) (saga_named q.commands) (saga_back q.commands) d q.sagas p h)
+          (wanted_read (codes "sagas") (named_of (saga_of q.commands)) q.object q.sagas w.good q.is_sagas);
+      apart = q.apart;
     }))
 
-sheet_back : (d : Data) (s : Sheet) → proper d ≡ true → sheet_of d ≡ Some s → Back sheet_of (depth d) s (sheet_data s)
-unfolding sheet_of
-sheet_back d s p h =
-    let o = then-some (object_of sheet_keys d) _ s h in
-    let name = then-some (wanted (codes "sheet") name_of o.from) _ s o.gives in
-    let revision = then-some (wanted (codes "revision") small_of o.from) _ s name.gives in
-    let a = then-some (wanted (codes "aggregate") (rules_of false) o.from) _ s revision.gives in
-    let w = opened sheet_keys d o.from p o.held in
-    around_back name.from revision.from a.from d o.from s w.good w.deep name.held revision.held a.held a.gives
+-- the JSON value of a text
+pub sheet_proper : (text : Line) (d : Data) → json_in text ≡ Some d → proper d ≡ true
+unfolding json_in
+sheet_proper text d h = let t = then-some (when (is_utf8 text) text) read d h in read_proper t.from d t.gives
 
 -- the JSON that is written for a sheet is the sheet, and may be read
 pub sheet_again : (s : Sheet) → IsSheet s → Back sheet_of max_depth s (sheet_data s)

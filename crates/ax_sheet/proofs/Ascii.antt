@@ -1,47 +1,13 @@
--- A text of ASCII is UTF-8, so it is a sheet where its JSON is one.
-use Rattle.std.proofs.Common.{◌≡◌, ◌<◌, ℕ, zero, suc, Bool, true, [], ◌∷◌, nat_lt, slice_index, IsUtf8, refl, ap, arith}
-use Rattle.std.proofs.lemmas.Bool.Decides.{nat_tests}
+-- Texts whose bytes are below 128.
+use Rattle.std.specs.Prelude.{◌≡◌, true}
+use Rattle.std.proofs.Common.{ap}
+use Rattle.std.proofs.lemmas.Str.{is_utf8-from_IsUtf8}
 use Rattle.std.specs.List.{list_all}
-use Rattle.std.proofs.lemmas.Str.{IsUtf8-from_ascii, is_utf8-from_IsUtf8}
 use Rattle.serde_json.specs.Read.{read}
-use Rattle.ax_values.specs.Grammar.{Line, ◌>>=◌, when, is_letter_or_digit, is_name_byte, is_name, is_text_byte, is_content}
-use Rattle.ax_values.proofs.Options.{both, and-true}
-use Rattle.ax_sheet.specs.Shape.{sheet_of, json_in, sheet_in}
-
-abbrev pub is_ascii : ℕ → Bool
-is_ascii b = nat_lt b 128
-
-below : (bs : Line) → list_all is_ascii bs ≡ true → (i : ℕ) → slice_index bs i < 128
-below [] h i = omega arith
-below (b ∷ bs) h zero = let p = both (is_ascii b) _ h in grind (arith, nat_tests, p)
-below (b ∷ bs) h (suc i) = let p = both (is_ascii b) _ h in below bs p.1 i
+use Rattle.ax_values.specs.Grammar.{Line, ◌>>=◌, when}
+use Rattle.ax_sheet_rules.specs.Shape.{sheet_of, json_in, sheet_in}
+use Rattle.ax_sheet_writing.proofs.Ascii.{is_ascii, utf8}
 
 pub ascii_sheet : (text : Line) → list_all is_ascii text ≡ true → sheet_in text ≡ (read text >>= sheet_of)
 unfolding sheet_in json_in
-ascii_sheet text h = ap (λ b. when b text >>= read >>= sheet_of) (is_utf8-from_IsUtf8 text (IsUtf8-from_ascii text (below text h)))
-
-all_ascii : (test : ℕ → Bool) → ((b : ℕ) → test b ≡ true → is_ascii b ≡ true) → (bs : Line) → list_all test bs ≡ true → list_all is_ascii bs ≡ true
-all_ascii test low [] h = refl
-all_ascii test low (b ∷ bs) h = let p = both (test b) _ h in and-true (is_ascii b) _ (low b p.0) (all_ascii test low bs p.1)
-
-name_byte : (b : ℕ) → is_name_byte b ≡ true → is_ascii b ≡ true
-name_byte b h = grind (arith, nat_tests, h)
-
-text_byte : (b : ℕ) → is_text_byte b ≡ true → is_ascii b ≡ true
-text_byte b h = grind (arith, nat_tests, h)
-
-name_first : (b : ℕ) → is_letter_or_digit b ≡ true → is_ascii b ≡ true
-name_first b h = grind (arith, nat_tests, h)
-
-utf8 : (bs : Line) → list_all is_ascii bs ≡ true → IsUtf8 bs
-utf8 bs h = IsUtf8-from_ascii bs (below bs h)
-
-pub name_utf8 : (name : Line) → is_name name ≡ true → IsUtf8 name
-name_utf8 [] h = cc
-name_utf8 (b ∷ bs) h =
-    let p = both (is_letter_or_digit b) _ h in
-    let q = both (list_all is_name_byte bs) _ p.1 in
-    utf8 (b ∷ bs) (and-true (is_ascii b) _ (name_first b p.0) (all_ascii is_name_byte name_byte bs q.0))
-
-pub content_utf8 : (content : Line) → is_content content ≡ true → IsUtf8 content
-content_utf8 bs h = let p = both (list_all is_text_byte bs) _ h in utf8 bs (all_ascii is_text_byte text_byte bs p.0)
+ascii_sheet text h = ap (λ b. when b text >>= read >>= sheet_of) (is_utf8-from_IsUtf8 text (utf8 text h))

@@ -2,7 +2,7 @@
 use Rattle.std.specs.Prelude.{◌≡◌, refl, codes, Some}
 use Rattle.ax_values.specs.Grammar.{Line}
 use Rattle.ax_sheet.specs.Cards.{cards}
-use Rattle.ax_sheet.specs.Shape.{sheet_in}
+use Rattle.ax_sheet_rules.specs.Shape.{sheet_in}
 use Rattle.ax_sheet.proofs.Ascii.{ascii_sheet}
 use Rattle.ax_sheet.proofs.OnLiterals.{sheets_on_literals}
 

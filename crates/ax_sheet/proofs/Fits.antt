@@ -2,8 +2,8 @@
 use Rattle.std.proofs.Common.{◌≡◌, ◌≢◌, ◌&&◌, Bool, true, false, List, [], ◌∷◌, length, suc, refl, ap, ◌∙◌}
 use Rattle.ax_values.specs.Words.{same_name}
 use Rattle.ax_values.specs.declared.value.Field.{Field}
-use Rattle.ax_sheet.specs.Sheet.{fits_params, is_kind}
-use Rattle.ax_sheet.specs.declared.params.Param.{Param}
+use Rattle.ax_sheet_parts.specs.Sheet.{fits_params, is_kind}
+use Rattle.ax_sheet_parts.specs.declared.params.Param.{Param}
 
 no_and : (a b : Bool) → (a && b && false) ≡ false
 no_and true true = refl

@@ -22,15 +22,15 @@ use Rattle.ax_rules.specs.declared.saga_rules.Handler.{Handler}
 use Rattle.ax_upcast.specs.declared.event.Template.{Template}
 use Rattle.ax_upcast.specs.declared.upcaster.Act.{Act}
 use Rattle.ax_upcast.specs.declared.upcaster.Upcaster.{Upcaster}
-use Rattle.ax_sheet.specs.Sheet.{Sheet}
+use Rattle.ax_sheet_parts.specs.Sheet.{Sheet}
 use Rattle.ax_rules.specs.declared.saga_rules.GivenParam.{GivenParam}
 use Rattle.ax_upcast.specs.declared.event.GivenField.{GivenField}
-use Rattle.ax_sheet.specs.declared.params.Param.{Param}
-use Rattle.ax_sheet.specs.declared.parts.Command.{Command}
-use Rattle.ax_sheet.specs.declared.parts.NamedCommand.{NamedCommand}
-use Rattle.ax_sheet.specs.declared.parts.NamedRules.{NamedRules}
-use Rattle.ax_sheet.specs.declared.parts.NamedSaga.{NamedSaga}
-use Rattle.ax_sheet.specs.Text.{list_data, named_data, put_list, put_flag, int_data, value_data, given_data, field_name, expr_data, guard_data, guards_data, sets_data, fields_data, rule_data, rules_data, template_data, kind_text, params_data, two_data, small_data, command_data, act_data, upcaster_data, key_data, from_data, association_data, dispatch_data, changes_data, handler_data, saga_data, head_data, sheet_data}
+use Rattle.ax_sheet_parts.specs.declared.params.Param.{Param}
+use Rattle.ax_sheet_parts.specs.Commands.{Command}
+use Rattle.ax_sheet_parts.specs.declared.parts.NamedCommand.{NamedCommand}
+use Rattle.ax_sheet_parts.specs.declared.parts.NamedRules.{NamedRules}
+use Rattle.ax_sheet_parts.specs.declared.parts.NamedSaga.{NamedSaga}
+use Rattle.ax_sheet_writing.specs.Text.{list_data, named_data, put_list, put_flag, int_data, value_data, given_data, field_name, expr_data, guard_data, guards_data, sets_data, fields_data, rule_data, rules_data, template_data, kind_text, params_data, two_data, small_data, command_data, act_data, upcaster_data, key_data, from_data, association_data, dispatch_data, changes_data, handler_data, saga_data, head_data, sheet_data}
 
 neither : (a b : Bool) → a ≡ false → b ≡ false → (a || b) ≡ false
 neither a b p q = ap (λ a. a || b) p ∙ q

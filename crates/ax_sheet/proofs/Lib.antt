@@ -1,8 +1,4 @@
-pub mod Counts
-pub mod Rooms
 pub mod Fits
-pub mod Places
-pub mod Loops
 pub mod Sheets
 pub mod OnLiterals
 pub mod Ascii
@@ -14,4 +10,5 @@ pub mod SameParts
 pub mod Objects
 pub mod Again
 pub mod AgainSheet
+pub mod Rising
 mod OtherSheets

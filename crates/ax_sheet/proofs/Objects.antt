@@ -11,9 +11,10 @@ use Rattle.serde_json.proofs.Views.{get_member-put, get_member-put_other}
 use Rattle.serde_json.specs.Data.{Data, null, boolean, number, string, array, object, Members, no_members, member, put, depth, members_depth}
 use Rattle.serde_json.specs.Find.{get, get_member}
 use Rattle.ax_values.specs.Grammar.{Line}
-use Rattle.ax_values.proofs.Options.{both, not-true, when-some, when-true, then-some}
-use Rattle.ax_sheet.specs.Members.{count, is_there, count_of, object_of, wanted, or_empty, optional}
-use Rattle.ax_sheet.specs.Text.{put_list, put_flag}
+use Rattle.ax_laws.proofs.Tests.{both, not-true}
+use Rattle.ax_values.proofs.Options.{when-some, when-true, then-some}
+use Rattle.ax_sheet_rules.specs.Members.{count, is_there, count_of, object_of, wanted, or_empty, optional}
+use Rattle.ax_sheet_writing.specs.Text.{put_list, put_flag}
 use Rattle.ax_sheet.proofs.Proper.{proper, get_proper}
 
 pub then-is : {A B : Type 0} (o : Option A) (f : A → Option B) (x : A) (y : B) → o ≡ Some x → f x ≡ Some y → option_and_then f o ≡ Some y

@@ -1,151 +1,149 @@
--- Sheets that are accepted, with their text, and sheets that are refused.
-use Rattle.std.specs.Prelude.{◌≡◌, refl, codes, Some, None, Option, option_map}
+-- Sheets that are accepted, with their text, and sheets that are refused. Each differs from the usual one in few slots.
+use Rattle.std.specs.Prelude.{◌≡◌, ◌++◌, refl, codes, Some, None, Option, option_map, ⊤}
 use Rattle.std.proofs.Common.{ap}
 use Rattle.ax_values.specs.Grammar.{Line}
-use Rattle.ax_sheet.specs.Shape.{sheet_in}
-use Rattle.ax_sheet.specs.Text.{expr_data, rule_data, rules_data, template_data, command_data, act_data, upcaster_data, changes_data, handler_data, saga_data, head_data, sheet_data, sheet_text}
+use Rattle.ax_sheet_rules.specs.Shape.{sheet_in}
+use Rattle.ax_sheet_writing.specs.Text.{expr_data, rule_data, rules_data, template_data, command_data, act_data, upcaster_data, changes_data, handler_data, saga_data, head_data, sheet_data, sheet_text}
 use Rattle.ax_sheet.proofs.Ascii.{ascii_sheet}
 use Rattle.ax_sheet.proofs.OnLiterals.{sheets_on_literals}
 
+unfoldable sheets_and_texts : ⊤
+unfolding sheets_on_literals expr_data rule_data rules_data template_data command_data act_data upcaster_data changes_data handler_data saga_data head_data sheet_data sheet_text
+sheets_and_texts = tt
+
+-- what is read and written again
 abbrev again : Line → Option Line
 again text = option_map sheet_text (sheet_in text)
 
-abbrev plain_text : Line
-plain_text = codes "{\"sheet\": \"s\", \"revision\": 1, \"aggregate\": {\"fields\": {\"n\": 0}, \"on\": {\"made\": {\"sets\": {\"n\": [\"+\", \"n\", 1]}}}}, \"commands\": {\"make\": {\"params\": {\"a\": \"int\", \"t\": \"text\"}, \"guards\": [[\"<\", \"n\", 2]], \"events\": [[\"made\", 1, {\"a\": \"$a\", \"t\": \"$t\"}]]}}, \"upcast\": [], \"projections\": {\"p\": {\"fields\": {\"k\": 5}, \"on\": {\"made\": {\"announce\": true}}}}, \"sagas\": {\"g\": {\"fields\": {}, \"on\": {\"made\": {\"by\": \"@\", \"start\": true, \"send\": [[\"make\", \"@\", {\"a\": 1, \"t\": \"x\"}]]}}}}}"
+-- the slots of a sheet's text
+record Slots : Type 0 where
+  name : Line
+  revision : Line
+  fields : Line
+  set : Line
+  announce : Line
+  guard : Line
+  events : Line
+  upcast : Line
+  applied : Line
+  handler : Line
+  last : Line
 
-pub sheet_plain : again plain_text ≡ Some (codes "{\"aggregate\":{\"fields\":{\"n\":0},\"on\":{\"made\":{\"sets\":{\"n\":[\"+\",\"n\",1]}}}},\"commands\":{\"make\":{\"events\":[[\"made\",1,{\"a\":\"$a\",\"t\":\"$t\"}]],\"guards\":[[\"<\",\"n\",2]],\"params\":{\"a\":\"int\",\"t\":\"text\"}}},\"projections\":{\"p\":{\"fields\":{\"k\":5},\"on\":{\"made\":{\"announce\":true}}}},\"revision\":1,\"sagas\":{\"g\":{\"fields\":{},\"on\":{\"made\":{\"by\":\"@\",\"send\":[[\"make\",\"@\",{\"a\":1,\"t\":\"x\"}]],\"start\":true}}}},\"sheet\":\"s\",\"upcast\":[]}")
-unfolding sheets_on_literals expr_data rule_data rules_data template_data command_data act_data upcaster_data changes_data handler_data saga_data head_data sheet_data sheet_text
-sheet_plain = ap (option_map sheet_text) (ascii_sheet plain_text refl)
+abbrev usual : Slots
+usual = record {
+  name = codes "\"sheet\":\"s\"";
+  revision = codes "1";
+  fields = codes "\"n\":0";
+  set = codes "\"n\"";
+  announce = codes "";
+  guard = codes "\"<\",\"n\"";
+  events = codes "\"a\":\"$a\",\"t\":\"$t\"";
+  upcast = codes "\"upcast\":[],";
+  applied = codes "\"announce\":true";
+  handler = codes "\"by\":\"@\",\"start\":true,\"send\":[[\"make\",\"@\",{\"a\":1,\"t\":\"x\"}]]";
+  last = codes "";
+}
 
-abbrev more_text : Line
-more_text = codes "{\"sheet\":\"s\",\"revision\":1,\"aggregate\":{\"fields\":{\"n\":0},\"on\":{\"made\":{\"sets\":{\"n\":[\"+\",\"n\",1]}}}},\"commands\":{\"make\":{\"params\":{\"a\":\"int\",\"t\":\"text\"},\"guards\":[[\"<\",\"n\",2]],\"events\":[[\"made\",1,{\"a\":\"$a\",\"t\":\"$t\"}]]}},\"upcast\":[],\"projections\":{\"p\":{\"fields\":{\"k\":5},\"on\":{\"made\":{\"announce\":true}}}},\"sagas\":{\"g\":{\"fields\":{},\"on\":{\"made\":{\"by\":\"@\",\"start\":true,\"send\":[[\"make\",\"@\",{\"a\":1,\"t\":\"x\"}]]}}}},\"x\":1}"
+-- a text with these slots
+abbrev given : Slots → Line
+given s =
+    codes "{" ++ s.name ++ codes ",\"revision\":" ++ s.revision ++ codes ",\"aggregate\":{\"fields\":{" ++ s.fields ++ codes "},\"on\":{\"made\":{\"sets\":{\"n\":[\"+\"," ++ s.set ++ codes ",1]}"
+    ++ s.announce ++ codes "}}},\"commands\":{\"make\":{\"params\":{\"a\":\"int\",\"t\":\"text\"},\"guards\":[[" ++ s.guard ++ codes ",2]],\"events\":[[\"made\",1,{" ++ s.events ++ codes "}]]}}," ++ s.upcast
+    ++ codes "\"projections\":{\"p\":{\"fields\":{\"k\":5},\"on\":{\"made\":{" ++ s.applied ++ codes "}}}},\"sagas\":{\"g\":{\"fields\":{},\"on\":{\"made\":{" ++ s.handler ++ codes "}}}}" ++ s.last ++ codes "}"
 
-pub sheet_more : again more_text ≡ None
-unfolding sheets_on_literals expr_data rule_data rules_data template_data command_data act_data upcaster_data changes_data handler_data saga_data head_data sheet_data sheet_text
-sheet_more = ap (option_map sheet_text) (ascii_sheet more_text refl)
+-- the text that is written, with the same slots
+abbrev written : Slots → Line
+written s =
+    codes "{\"aggregate\":{\"fields\":{\"n\":0},\"on\":{\"made\":{\"sets\":{\"n\":[\"+\"," ++ s.set ++ codes ",1]}}}},\"commands\":{\"make\":{\"events\":[[\"made\",1,{" ++ s.events
+    ++ codes "}]],\"guards\":[[" ++ s.guard ++ codes ",2]],\"params\":{\"a\":\"int\",\"t\":\"text\"}}},\"projections\":{\"p\":{\"fields\":{\"k\":5},\"on\":{\"made\":{" ++ s.applied
+    ++ codes "}}}},\"revision\":" ++ s.revision ++ codes ",\"sagas\":{\"g\":{\"fields\":{},\"on\":{\"made\":{" ++ s.handler ++ codes "}}}}," ++ s.name ++ codes "," ++ s.upcast ++ codes "}"
 
-abbrev no_upcast_text : Line
-no_upcast_text = codes "{\"sheet\":\"s\",\"revision\":1,\"aggregate\":{\"fields\":{\"n\":0},\"on\":{\"made\":{\"sets\":{\"n\":[\"+\",\"n\",1]}}}},\"commands\":{\"make\":{\"params\":{\"a\":\"int\",\"t\":\"text\"},\"guards\":[[\"<\",\"n\",2]],\"events\":[[\"made\",1,{\"a\":\"$a\",\"t\":\"$t\"}]]}},\"projections\":{\"p\":{\"fields\":{\"k\":5},\"on\":{\"made\":{\"announce\":true}}}},\"sagas\":{\"g\":{\"fields\":{},\"on\":{\"made\":{\"by\":\"@\",\"start\":true,\"send\":[[\"make\",\"@\",{\"a\":1,\"t\":\"x\"}]]}}}}}"
+-- the slots as they are written
+abbrev canonical : Slots
+canonical = record usual {
+  upcast = codes "\"upcast\":[]";
+  handler = codes "\"by\":\"@\",\"send\":[[\"make\",\"@\",{\"a\":1,\"t\":\"x\"}]],\"start\":true";
+}
 
-pub sheet_no_upcast : again no_upcast_text ≡ None
-unfolding sheets_on_literals expr_data rule_data rules_data template_data command_data act_data upcaster_data changes_data handler_data saga_data head_data sheet_data sheet_text
-sheet_no_upcast = ap (option_map sheet_text) (ascii_sheet no_upcast_text refl)
+abbrev spaced_text : Line
+spaced_text = codes "{\"sheet\": \"s\", \"revision\": 1, \"aggregate\": {\"fields\": {\"n\": 0}, \"on\": {\"made\": {\"sets\": {\"n\": [\"+\", \"n\", 1]}}}}, \"commands\": {\"make\": {\"params\": {\"a\": \"int\", \"t\": \"text\"}, \"guards\": [[\"<\", \"n\", 2]], \"events\": [[\"made\", 1, {\"a\": \"$a\", \"t\": \"$t\"}]]}}, \"upcast\": [], \"projections\": {\"p\": {\"fields\": {\"k\": 5}, \"on\": {\"made\": {\"announce\": true}}}}, \"sagas\": {\"g\": {\"fields\": {}, \"on\": {\"made\": {\"by\": \"@\", \"start\": true, \"send\": [[\"make\", \"@\", {\"a\": 1, \"t\": \"x\"}]]}}}}}"
 
-abbrev revision_float_text : Line
-revision_float_text = codes "{\"sheet\":\"s\",\"revision\":1.0,\"aggregate\":{\"fields\":{\"n\":0},\"on\":{\"made\":{\"sets\":{\"n\":[\"+\",\"n\",1]}}}},\"commands\":{\"make\":{\"params\":{\"a\":\"int\",\"t\":\"text\"},\"guards\":[[\"<\",\"n\",2]],\"events\":[[\"made\",1,{\"a\":\"$a\",\"t\":\"$t\"}]]}},\"upcast\":[],\"projections\":{\"p\":{\"fields\":{\"k\":5},\"on\":{\"made\":{\"announce\":true}}}},\"sagas\":{\"g\":{\"fields\":{},\"on\":{\"made\":{\"by\":\"@\",\"start\":true,\"send\":[[\"make\",\"@\",{\"a\":1,\"t\":\"x\"}]]}}}}}"
+sheet_plain : again spaced_text ≡ Some (written canonical)
+unfolding sheets_and_texts
+sheet_plain = ap (option_map sheet_text) (ascii_sheet spaced_text refl)
 
-pub sheet_revision_float : again revision_float_text ≡ None
-unfolding sheets_on_literals expr_data rule_data rules_data template_data command_data act_data upcaster_data changes_data handler_data saga_data head_data sheet_data sheet_text
-sheet_revision_float = ap (option_map sheet_text) (ascii_sheet revision_float_text refl)
+sheet_more : again (given (record usual { last = codes ",\"x\":1" })) ≡ None
+unfolding sheets_and_texts
+sheet_more = ap (option_map sheet_text) (ascii_sheet (given (record usual { last = codes ",\"x\":1" })) refl)
 
-abbrev announce_aggregate_text : Line
-announce_aggregate_text = codes "{\"sheet\":\"s\",\"revision\":1,\"aggregate\":{\"fields\":{\"n\":0},\"on\":{\"made\":{\"sets\":{\"n\":[\"+\",\"n\",1]},\"announce\":false}}},\"commands\":{\"make\":{\"params\":{\"a\":\"int\",\"t\":\"text\"},\"guards\":[[\"<\",\"n\",2]],\"events\":[[\"made\",1,{\"a\":\"$a\",\"t\":\"$t\"}]]}},\"upcast\":[],\"projections\":{\"p\":{\"fields\":{\"k\":5},\"on\":{\"made\":{\"announce\":true}}}},\"sagas\":{\"g\":{\"fields\":{},\"on\":{\"made\":{\"by\":\"@\",\"start\":true,\"send\":[[\"make\",\"@\",{\"a\":1,\"t\":\"x\"}]]}}}}}"
+sheet_no_upcast : again (given (record usual { upcast = codes "" })) ≡ None
+unfolding sheets_and_texts
+sheet_no_upcast = ap (option_map sheet_text) (ascii_sheet (given (record usual { upcast = codes "" })) refl)
 
-pub sheet_announce_aggregate : again announce_aggregate_text ≡ None
-unfolding sheets_on_literals expr_data rule_data rules_data template_data command_data act_data upcaster_data changes_data handler_data saga_data head_data sheet_data sheet_text
-sheet_announce_aggregate = ap (option_map sheet_text) (ascii_sheet announce_aggregate_text refl)
+sheet_revision_float : again (given (record usual { revision = codes "1.0" })) ≡ None
+unfolding sheets_and_texts
+sheet_revision_float = ap (option_map sheet_text) (ascii_sheet (given (record usual { revision = codes "1.0" })) refl)
 
-abbrev announce_false_text : Line
-announce_false_text = codes "{\"sheet\":\"s\",\"revision\":1,\"aggregate\":{\"fields\":{\"n\":0},\"on\":{\"made\":{\"sets\":{\"n\":[\"+\",\"n\",1]}}}},\"commands\":{\"make\":{\"params\":{\"a\":\"int\",\"t\":\"text\"},\"guards\":[[\"<\",\"n\",2]],\"events\":[[\"made\",1,{\"a\":\"$a\",\"t\":\"$t\"}]]}},\"upcast\":[],\"projections\":{\"p\":{\"fields\":{\"k\":5},\"on\":{\"made\":{\"announce\":false}}}},\"sagas\":{\"g\":{\"fields\":{},\"on\":{\"made\":{\"by\":\"@\",\"start\":true,\"send\":[[\"make\",\"@\",{\"a\":1,\"t\":\"x\"}]]}}}}}"
+sheet_announce_aggregate : again (given (record usual { announce = codes ",\"announce\":false" })) ≡ None
+unfolding sheets_and_texts
+sheet_announce_aggregate = ap (option_map sheet_text) (ascii_sheet (given (record usual { announce = codes ",\"announce\":false" })) refl)
 
-pub sheet_announce_false : again announce_false_text ≡ Some (codes "{\"aggregate\":{\"fields\":{\"n\":0},\"on\":{\"made\":{\"sets\":{\"n\":[\"+\",\"n\",1]}}}},\"commands\":{\"make\":{\"events\":[[\"made\",1,{\"a\":\"$a\",\"t\":\"$t\"}]],\"guards\":[[\"<\",\"n\",2]],\"params\":{\"a\":\"int\",\"t\":\"text\"}}},\"projections\":{\"p\":{\"fields\":{\"k\":5},\"on\":{\"made\":{}}}},\"revision\":1,\"sagas\":{\"g\":{\"fields\":{},\"on\":{\"made\":{\"by\":\"@\",\"send\":[[\"make\",\"@\",{\"a\":1,\"t\":\"x\"}]],\"start\":true}}}},\"sheet\":\"s\",\"upcast\":[]}")
-unfolding sheets_on_literals expr_data rule_data rules_data template_data command_data act_data upcaster_data changes_data handler_data saga_data head_data sheet_data sheet_text
-sheet_announce_false = ap (option_map sheet_text) (ascii_sheet announce_false_text refl)
+sheet_announce_false : again (given (record usual { applied = codes "\"announce\":false" })) ≡ Some (written (record canonical { applied = codes "" }))
+unfolding sheets_and_texts
+sheet_announce_false = ap (option_map sheet_text) (ascii_sheet (given (record usual { applied = codes "\"announce\":false" })) refl)
 
-abbrev fields_9_text : Line
-fields_9_text = codes "{\"sheet\":\"s\",\"revision\":1,\"aggregate\":{\"fields\":{\"f0\":0,\"f1\":0,\"f2\":0,\"f3\":0,\"f4\":0,\"f5\":0,\"f6\":0,\"f7\":0,\"n\":0},\"on\":{\"made\":{\"sets\":{\"n\":[\"+\",\"n\",1]}}}},\"commands\":{\"make\":{\"params\":{\"a\":\"int\",\"t\":\"text\"},\"guards\":[[\"<\",\"n\",2]],\"events\":[[\"made\",1,{\"a\":\"$a\",\"t\":\"$t\"}]]}},\"upcast\":[],\"projections\":{\"p\":{\"fields\":{\"k\":5},\"on\":{\"made\":{\"announce\":true}}}},\"sagas\":{\"g\":{\"fields\":{},\"on\":{\"made\":{\"by\":\"@\",\"start\":true,\"send\":[[\"make\",\"@\",{\"a\":1,\"t\":\"x\"}]]}}}}}"
+sheet_fields_9 : again (given (record usual { fields = codes "\"f0\":0,\"f1\":0,\"f2\":0,\"f3\":0,\"f4\":0,\"f5\":0,\"f6\":0,\"f7\":0,\"n\":0" })) ≡ None
+unfolding sheets_and_texts
+sheet_fields_9 = ap (option_map sheet_text) (ascii_sheet (given (record usual { fields = codes "\"f0\":0,\"f1\":0,\"f2\":0,\"f3\":0,\"f4\":0,\"f5\":0,\"f6\":0,\"f7\":0,\"n\":0" })) refl)
 
-pub sheet_fields_9 : again fields_9_text ≡ None
-unfolding sheets_on_literals expr_data rule_data rules_data template_data command_data act_data upcaster_data changes_data handler_data saga_data head_data sheet_data sheet_text
-sheet_fields_9 = ap (option_map sheet_text) (ascii_sheet fields_9_text refl)
+sheet_depth_8 : again (given (record usual { set = codes "[\"+\",[\"+\",[\"+\",[\"+\",[\"+\",[\"+\",\"n\",1],1],1],1],1],1]" })) ≡ Some (written (record canonical { set = codes "[\"+\",[\"+\",[\"+\",[\"+\",[\"+\",[\"+\",\"n\",1],1],1],1],1],1]" }))
+unfolding sheets_and_texts
+sheet_depth_8 = ap (option_map sheet_text) (ascii_sheet (given (record usual { set = codes "[\"+\",[\"+\",[\"+\",[\"+\",[\"+\",[\"+\",\"n\",1],1],1],1],1],1]" })) refl)
 
-abbrev depth_8_text : Line
-depth_8_text = codes "{\"sheet\":\"s\",\"revision\":1,\"aggregate\":{\"fields\":{\"n\":0},\"on\":{\"made\":{\"sets\":{\"n\":[\"+\",[\"+\",[\"+\",[\"+\",[\"+\",[\"+\",[\"+\",\"n\",1],1],1],1],1],1],1]}}}},\"commands\":{\"make\":{\"params\":{\"a\":\"int\",\"t\":\"text\"},\"guards\":[[\"<\",\"n\",2]],\"events\":[[\"made\",1,{\"a\":\"$a\",\"t\":\"$t\"}]]}},\"upcast\":[],\"projections\":{\"p\":{\"fields\":{\"k\":5},\"on\":{\"made\":{\"announce\":true}}}},\"sagas\":{\"g\":{\"fields\":{},\"on\":{\"made\":{\"by\":\"@\",\"start\":true,\"send\":[[\"make\",\"@\",{\"a\":1,\"t\":\"x\"}]]}}}}}"
+sheet_depth_9 : again (given (record usual { set = codes "[\"+\",[\"+\",[\"+\",[\"+\",[\"+\",[\"+\",[\"+\",\"n\",1],1],1],1],1],1],1]" })) ≡ None
+unfolding sheets_and_texts
+sheet_depth_9 = ap (option_map sheet_text) (ascii_sheet (given (record usual { set = codes "[\"+\",[\"+\",[\"+\",[\"+\",[\"+\",[\"+\",[\"+\",\"n\",1],1],1],1],1],1],1]" })) refl)
 
-pub sheet_depth_8 : again depth_8_text ≡ Some (codes "{\"aggregate\":{\"fields\":{\"n\":0},\"on\":{\"made\":{\"sets\":{\"n\":[\"+\",[\"+\",[\"+\",[\"+\",[\"+\",[\"+\",[\"+\",\"n\",1],1],1],1],1],1],1]}}}},\"commands\":{\"make\":{\"events\":[[\"made\",1,{\"a\":\"$a\",\"t\":\"$t\"}]],\"guards\":[[\"<\",\"n\",2]],\"params\":{\"a\":\"int\",\"t\":\"text\"}}},\"projections\":{\"p\":{\"fields\":{\"k\":5},\"on\":{\"made\":{\"announce\":true}}}},\"revision\":1,\"sagas\":{\"g\":{\"fields\":{},\"on\":{\"made\":{\"by\":\"@\",\"send\":[[\"make\",\"@\",{\"a\":1,\"t\":\"x\"}]],\"start\":true}}}},\"sheet\":\"s\",\"upcast\":[]}")
-unfolding sheets_on_literals expr_data rule_data rules_data template_data command_data act_data upcaster_data changes_data handler_data saga_data head_data sheet_data sheet_text
-sheet_depth_8 = ap (option_map sheet_text) (ascii_sheet depth_8_text refl)
+sheet_guard_text_param : again (given (record usual { guard = codes "\"=\",\"$t\"" })) ≡ None
+unfolding sheets_and_texts
+sheet_guard_text_param = ap (option_map sheet_text) (ascii_sheet (given (record usual { guard = codes "\"=\",\"$t\"" })) refl)
 
-abbrev depth_9_text : Line
-depth_9_text = codes "{\"sheet\":\"s\",\"revision\":1,\"aggregate\":{\"fields\":{\"n\":0},\"on\":{\"made\":{\"sets\":{\"n\":[\"+\",[\"+\",[\"+\",[\"+\",[\"+\",[\"+\",[\"+\",[\"+\",\"n\",1],1],1],1],1],1],1],1]}}}},\"commands\":{\"make\":{\"params\":{\"a\":\"int\",\"t\":\"text\"},\"guards\":[[\"<\",\"n\",2]],\"events\":[[\"made\",1,{\"a\":\"$a\",\"t\":\"$t\"}]]}},\"upcast\":[],\"projections\":{\"p\":{\"fields\":{\"k\":5},\"on\":{\"made\":{\"announce\":true}}}},\"sagas\":{\"g\":{\"fields\":{},\"on\":{\"made\":{\"by\":\"@\",\"start\":true,\"send\":[[\"make\",\"@\",{\"a\":1,\"t\":\"x\"}]]}}}}}"
+sheet_events_9 : again (given (record usual { events = codes "}],[\"made\",1,{}],[\"made\",1,{}],[\"made\",1,{}],[\"made\",1,{}],[\"made\",1,{}],[\"made\",1,{}],[\"made\",1,{}],[\"made\",1,{" })) ≡ None
+unfolding sheets_and_texts
+sheet_events_9 = ap (option_map sheet_text) (ascii_sheet (given (record usual { events = codes "}],[\"made\",1,{}],[\"made\",1,{}],[\"made\",1,{}],[\"made\",1,{}],[\"made\",1,{}],[\"made\",1,{}],[\"made\",1,{}],[\"made\",1,{" })) refl)
 
-pub sheet_depth_9 : again depth_9_text ≡ None
-unfolding sheets_on_literals expr_data rule_data rules_data template_data command_data act_data upcaster_data changes_data handler_data saga_data head_data sheet_data sheet_text
-sheet_depth_9 = ap (option_map sheet_text) (ascii_sheet depth_9_text refl)
+sheet_given_dollar : again (given (record usual { events = codes "\"x\":\"$\",\"y\":\"$-\",\"z\":\"$ a\"" })) ≡ Some (written (record canonical { events = codes "\"x\":\"$\",\"y\":\"$-\",\"z\":\"$ a\"" }))
+unfolding sheets_and_texts
+sheet_given_dollar = ap (option_map sheet_text) (ascii_sheet (given (record usual { events = codes "\"x\":\"$\",\"y\":\"$-\",\"z\":\"$ a\"" })) refl)
 
-abbrev guard_text_param_text : Line
-guard_text_param_text = codes "{\"sheet\":\"s\",\"revision\":1,\"aggregate\":{\"fields\":{\"n\":0},\"on\":{\"made\":{\"sets\":{\"n\":[\"+\",\"n\",1]}}}},\"commands\":{\"make\":{\"params\":{\"a\":\"int\",\"t\":\"text\"},\"guards\":[[\"=\",\"$t\",2]],\"events\":[[\"made\",1,{\"a\":\"$a\",\"t\":\"$t\"}]]}},\"upcast\":[],\"projections\":{\"p\":{\"fields\":{\"k\":5},\"on\":{\"made\":{\"announce\":true}}}},\"sagas\":{\"g\":{\"fields\":{},\"on\":{\"made\":{\"by\":\"@\",\"start\":true,\"send\":[[\"make\",\"@\",{\"a\":1,\"t\":\"x\"}]]}}}}}"
+sheet_default_copy : again (given (record usual { upcast = codes "\"upcast\":[{\"from\":[\"made\",1],\"do\":[\"default\",\"a\",\"$b\",2]}]," })) ≡ None
+unfolding sheets_and_texts
+sheet_default_copy = ap (option_map sheet_text) (ascii_sheet (given (record usual { upcast = codes "\"upcast\":[{\"from\":[\"made\",1],\"do\":[\"default\",\"a\",\"$b\",2]}]," })) refl)
 
-pub sheet_guard_text_param : again guard_text_param_text ≡ None
-unfolding sheets_on_literals expr_data rule_data rules_data template_data command_data act_data upcaster_data changes_data handler_data saga_data head_data sheet_data sheet_text
-sheet_guard_text_param = ap (option_map sheet_text) (ascii_sheet guard_text_param_text refl)
+sheet_items_9_then_none : again (given (record usual { upcast = codes "\"upcast\":[{\"from\":[\"made\",1],\"do\":[\"split\",[[\"x\",1,{}],[\"x\",1,{}],[\"x\",1,{}]]]},{\"from\":[\"x\",1],\"do\":[\"split\",[[\"y\",1,{}],[\"y\",1,{}],[\"y\",1,{}]]]},{\"from\":[\"y\",1],\"do\":[\"remove\"]}]," })) ≡ None
+unfolding sheets_and_texts
+sheet_items_9_then_none = ap (option_map sheet_text) (ascii_sheet (given (record usual { upcast = codes "\"upcast\":[{\"from\":[\"made\",1],\"do\":[\"split\",[[\"x\",1,{}],[\"x\",1,{}],[\"x\",1,{}]]]},{\"from\":[\"x\",1],\"do\":[\"split\",[[\"y\",1,{}],[\"y\",1,{}],[\"y\",1,{}]]]},{\"from\":[\"y\",1],\"do\":[\"remove\"]}]," })) refl)
 
-abbrev events_9_text : Line
-events_9_text = codes "{\"sheet\":\"s\",\"revision\":1,\"aggregate\":{\"fields\":{\"n\":0},\"on\":{\"made\":{\"sets\":{\"n\":[\"+\",\"n\",1]}}}},\"commands\":{\"make\":{\"params\":{\"a\":\"int\",\"t\":\"text\"},\"guards\":[[\"<\",\"n\",2]],\"events\":[[\"made\",1,{}],[\"made\",1,{}],[\"made\",1,{}],[\"made\",1,{}],[\"made\",1,{}],[\"made\",1,{}],[\"made\",1,{}],[\"made\",1,{}],[\"made\",1,{}]]}},\"upcast\":[],\"projections\":{\"p\":{\"fields\":{\"k\":5},\"on\":{\"made\":{\"announce\":true}}}},\"sagas\":{\"g\":{\"fields\":{},\"on\":{\"made\":{\"by\":\"@\",\"start\":true,\"send\":[[\"make\",\"@\",{\"a\":1,\"t\":\"x\"}]]}}}}}"
+sheet_items_before : again (given (record usual { upcast = codes "\"upcast\":[{\"from\":[\"x\",1],\"do\":[\"split\",[[\"y\",1,{}],[\"y\",1,{}],[\"y\",1,{}]]]},{\"from\":[\"made\",1],\"do\":[\"split\",[[\"x\",1,{}],[\"x\",1,{}],[\"x\",1,{}]]]}]," })) ≡ Some (written (record canonical { upcast = codes "\"upcast\":[{\"do\":[\"split\",[[\"y\",1,{}],[\"y\",1,{}],[\"y\",1,{}]]],\"from\":[\"x\",1]},{\"do\":[\"split\",[[\"x\",1,{}],[\"x\",1,{}],[\"x\",1,{}]]],\"from\":[\"made\",1]}]" }))
+unfolding sheets_and_texts
+sheet_items_before = ap (option_map sheet_text) (ascii_sheet (given (record usual { upcast = codes "\"upcast\":[{\"from\":[\"x\",1],\"do\":[\"split\",[[\"y\",1,{}],[\"y\",1,{}],[\"y\",1,{}]]]},{\"from\":[\"made\",1],\"do\":[\"split\",[[\"x\",1,{}],[\"x\",1,{}],[\"x\",1,{}]]]}]," })) refl)
 
-pub sheet_events_9 : again events_9_text ≡ None
-unfolding sheets_on_literals expr_data rule_data rules_data template_data command_data act_data upcaster_data changes_data handler_data saga_data head_data sheet_data sheet_text
-sheet_events_9 = ap (option_map sheet_text) (ascii_sheet events_9_text refl)
+sheet_send_kind : again (given (record usual { handler = codes "\"by\":\"@\",\"start\":true,\"send\":[[\"make\",\"@\",{\"a\":\"1\",\"t\":\"x\"}]]" })) ≡ None
+unfolding sheets_and_texts
+sheet_send_kind = ap (option_map sheet_text) (ascii_sheet (given (record usual { handler = codes "\"by\":\"@\",\"start\":true,\"send\":[[\"make\",\"@\",{\"a\":\"1\",\"t\":\"x\"}]]" })) refl)
 
-abbrev given_dollar_text : Line
-given_dollar_text = codes "{\"sheet\":\"s\",\"revision\":1,\"aggregate\":{\"fields\":{\"n\":0},\"on\":{\"made\":{\"sets\":{\"n\":[\"+\",\"n\",1]}}}},\"commands\":{\"make\":{\"params\":{\"a\":\"int\",\"t\":\"text\"},\"guards\":[[\"<\",\"n\",2]],\"events\":[[\"made\",1,{\"x\":\"$\",\"y\":\"$-\",\"z\":\"$ a\"}]]}},\"upcast\":[],\"projections\":{\"p\":{\"fields\":{\"k\":5},\"on\":{\"made\":{\"announce\":true}}}},\"sagas\":{\"g\":{\"fields\":{},\"on\":{\"made\":{\"by\":\"@\",\"start\":true,\"send\":[[\"make\",\"@\",{\"a\":1,\"t\":\"x\"}]]}}}}}"
+sheet_empty_optionals : again (given (record usual { handler = codes "\"by\":\"k\",\"start\":false,\"guards\":[],\"sets\":{},\"associate\":[],\"dissociate\":[],\"send\":[],\"end\":false" })) ≡ Some (written (record canonical { handler = codes "\"by\":\"k\"" }))
+unfolding sheets_and_texts
+sheet_empty_optionals = ap (option_map sheet_text) (ascii_sheet (given (record usual { handler = codes "\"by\":\"k\",\"start\":false,\"guards\":[],\"sets\":{},\"associate\":[],\"dissociate\":[],\"send\":[],\"end\":false" })) refl)
 
-pub sheet_given_dollar : again given_dollar_text ≡ Some (codes "{\"aggregate\":{\"fields\":{\"n\":0},\"on\":{\"made\":{\"sets\":{\"n\":[\"+\",\"n\",1]}}}},\"commands\":{\"make\":{\"events\":[[\"made\",1,{\"x\":\"$\",\"y\":\"$-\",\"z\":\"$ a\"}]],\"guards\":[[\"<\",\"n\",2]],\"params\":{\"a\":\"int\",\"t\":\"text\"}}},\"projections\":{\"p\":{\"fields\":{\"k\":5},\"on\":{\"made\":{\"announce\":true}}}},\"revision\":1,\"sagas\":{\"g\":{\"fields\":{},\"on\":{\"made\":{\"by\":\"@\",\"send\":[[\"make\",\"@\",{\"a\":1,\"t\":\"x\"}]],\"start\":true}}}},\"sheet\":\"s\",\"upcast\":[]}")
-unfolding sheets_on_literals expr_data rule_data rules_data template_data command_data act_data upcaster_data changes_data handler_data saga_data head_data sheet_data sheet_text
-sheet_given_dollar = ap (option_map sheet_text) (ascii_sheet given_dollar_text refl)
+sheet_doubled : again (given (record usual { revision = codes "\"x\",\"revision\":7" })) ≡ Some (written (record canonical { revision = codes "7" }))
+unfolding sheets_and_texts
+sheet_doubled = ap (option_map sheet_text) (ascii_sheet (given (record usual { revision = codes "\"x\",\"revision\":7" })) refl)
 
-abbrev default_copy_text : Line
-default_copy_text = codes "{\"sheet\":\"s\",\"revision\":1,\"aggregate\":{\"fields\":{\"n\":0},\"on\":{\"made\":{\"sets\":{\"n\":[\"+\",\"n\",1]}}}},\"commands\":{\"make\":{\"params\":{\"a\":\"int\",\"t\":\"text\"},\"guards\":[[\"<\",\"n\",2]],\"events\":[[\"made\",1,{\"a\":\"$a\",\"t\":\"$t\"}]]}},\"upcast\":[{\"from\":[\"made\",1],\"do\":[\"default\",\"a\",\"$b\",2]}],\"projections\":{\"p\":{\"fields\":{\"k\":5},\"on\":{\"made\":{\"announce\":true}}}},\"sagas\":{\"g\":{\"fields\":{},\"on\":{\"made\":{\"by\":\"@\",\"start\":true,\"send\":[[\"make\",\"@\",{\"a\":1,\"t\":\"x\"}]]}}}}}"
+sheet_escaped : again (given (record usual { name = codes "\"\\u0073heet\":\"s\"" })) ≡ Some (written canonical)
+unfolding sheets_and_texts
+sheet_escaped = ap (option_map sheet_text) (ascii_sheet (given (record usual { name = codes "\"\\u0073heet\":\"s\"" })) refl)
 
-pub sheet_default_copy : again default_copy_text ≡ None
-unfolding sheets_on_literals expr_data rule_data rules_data template_data command_data act_data upcaster_data changes_data handler_data saga_data head_data sheet_data sheet_text
-sheet_default_copy = ap (option_map sheet_text) (ascii_sheet default_copy_text refl)
-
-abbrev items_9_then_none_text : Line
-items_9_then_none_text = codes "{\"sheet\":\"s\",\"revision\":1,\"aggregate\":{\"fields\":{\"n\":0},\"on\":{\"made\":{\"sets\":{\"n\":[\"+\",\"n\",1]}}}},\"commands\":{\"make\":{\"params\":{\"a\":\"int\",\"t\":\"text\"},\"guards\":[[\"<\",\"n\",2]],\"events\":[[\"made\",1,{\"a\":\"$a\",\"t\":\"$t\"}]]}},\"upcast\":[{\"from\":[\"made\",1],\"do\":[\"split\",[[\"x\",1,{}],[\"x\",1,{}],[\"x\",1,{}]]]},{\"from\":[\"x\",1],\"do\":[\"split\",[[\"y\",1,{}],[\"y\",1,{}],[\"y\",1,{}]]]},{\"from\":[\"y\",1],\"do\":[\"remove\"]}],\"projections\":{\"p\":{\"fields\":{\"k\":5},\"on\":{\"made\":{\"announce\":true}}}},\"sagas\":{\"g\":{\"fields\":{},\"on\":{\"made\":{\"by\":\"@\",\"start\":true,\"send\":[[\"make\",\"@\",{\"a\":1,\"t\":\"x\"}]]}}}}}"
-
-pub sheet_items_9_then_none : again items_9_then_none_text ≡ None
-unfolding sheets_on_literals expr_data rule_data rules_data template_data command_data act_data upcaster_data changes_data handler_data saga_data head_data sheet_data sheet_text
-sheet_items_9_then_none = ap (option_map sheet_text) (ascii_sheet items_9_then_none_text refl)
-
-abbrev items_before_text : Line
-items_before_text = codes "{\"sheet\":\"s\",\"revision\":1,\"aggregate\":{\"fields\":{\"n\":0},\"on\":{\"made\":{\"sets\":{\"n\":[\"+\",\"n\",1]}}}},\"commands\":{\"make\":{\"params\":{\"a\":\"int\",\"t\":\"text\"},\"guards\":[[\"<\",\"n\",2]],\"events\":[[\"made\",1,{\"a\":\"$a\",\"t\":\"$t\"}]]}},\"upcast\":[{\"from\":[\"x\",1],\"do\":[\"split\",[[\"y\",1,{}],[\"y\",1,{}],[\"y\",1,{}]]]},{\"from\":[\"made\",1],\"do\":[\"split\",[[\"x\",1,{}],[\"x\",1,{}],[\"x\",1,{}]]]}],\"projections\":{\"p\":{\"fields\":{\"k\":5},\"on\":{\"made\":{\"announce\":true}}}},\"sagas\":{\"g\":{\"fields\":{},\"on\":{\"made\":{\"by\":\"@\",\"start\":true,\"send\":[[\"make\",\"@\",{\"a\":1,\"t\":\"x\"}]]}}}}}"
-
-pub sheet_items_before : again items_before_text ≡ Some (codes "{\"aggregate\":{\"fields\":{\"n\":0},\"on\":{\"made\":{\"sets\":{\"n\":[\"+\",\"n\",1]}}}},\"commands\":{\"make\":{\"events\":[[\"made\",1,{\"a\":\"$a\",\"t\":\"$t\"}]],\"guards\":[[\"<\",\"n\",2]],\"params\":{\"a\":\"int\",\"t\":\"text\"}}},\"projections\":{\"p\":{\"fields\":{\"k\":5},\"on\":{\"made\":{\"announce\":true}}}},\"revision\":1,\"sagas\":{\"g\":{\"fields\":{},\"on\":{\"made\":{\"by\":\"@\",\"send\":[[\"make\",\"@\",{\"a\":1,\"t\":\"x\"}]],\"start\":true}}}},\"sheet\":\"s\",\"upcast\":[{\"do\":[\"split\",[[\"y\",1,{}],[\"y\",1,{}],[\"y\",1,{}]]],\"from\":[\"x\",1]},{\"do\":[\"split\",[[\"x\",1,{}],[\"x\",1,{}],[\"x\",1,{}]]],\"from\":[\"made\",1]}]}")
-unfolding sheets_on_literals expr_data rule_data rules_data template_data command_data act_data upcaster_data changes_data handler_data saga_data head_data sheet_data sheet_text
-sheet_items_before = ap (option_map sheet_text) (ascii_sheet items_before_text refl)
-
-abbrev send_kind_text : Line
-send_kind_text = codes "{\"sheet\":\"s\",\"revision\":1,\"aggregate\":{\"fields\":{\"n\":0},\"on\":{\"made\":{\"sets\":{\"n\":[\"+\",\"n\",1]}}}},\"commands\":{\"make\":{\"params\":{\"a\":\"int\",\"t\":\"text\"},\"guards\":[[\"<\",\"n\",2]],\"events\":[[\"made\",1,{\"a\":\"$a\",\"t\":\"$t\"}]]}},\"upcast\":[],\"projections\":{\"p\":{\"fields\":{\"k\":5},\"on\":{\"made\":{\"announce\":true}}}},\"sagas\":{\"g\":{\"fields\":{},\"on\":{\"made\":{\"by\":\"@\",\"start\":true,\"send\":[[\"make\",\"@\",{\"a\":\"1\",\"t\":\"x\"}]]}}}}}"
-
-pub sheet_send_kind : again send_kind_text ≡ None
-unfolding sheets_on_literals expr_data rule_data rules_data template_data command_data act_data upcaster_data changes_data handler_data saga_data head_data sheet_data sheet_text
-sheet_send_kind = ap (option_map sheet_text) (ascii_sheet send_kind_text refl)
-
-abbrev empty_optionals_text : Line
-empty_optionals_text = codes "{\"sheet\":\"s\",\"revision\":1,\"aggregate\":{\"fields\":{\"n\":0},\"on\":{\"made\":{\"sets\":{\"n\":[\"+\",\"n\",1]}}}},\"commands\":{\"make\":{\"params\":{\"a\":\"int\",\"t\":\"text\"},\"guards\":[[\"<\",\"n\",2]],\"events\":[[\"made\",1,{\"a\":\"$a\",\"t\":\"$t\"}]]}},\"upcast\":[],\"projections\":{\"p\":{\"fields\":{\"k\":5},\"on\":{\"made\":{\"announce\":true}}}},\"sagas\":{\"g\":{\"fields\":{},\"on\":{\"made\":{\"by\":\"k\",\"start\":false,\"guards\":[],\"sets\":{},\"associate\":[],\"dissociate\":[],\"send\":[],\"end\":false}}}}}"
-
-pub sheet_empty_optionals : again empty_optionals_text ≡ Some (codes "{\"aggregate\":{\"fields\":{\"n\":0},\"on\":{\"made\":{\"sets\":{\"n\":[\"+\",\"n\",1]}}}},\"commands\":{\"make\":{\"events\":[[\"made\",1,{\"a\":\"$a\",\"t\":\"$t\"}]],\"guards\":[[\"<\",\"n\",2]],\"params\":{\"a\":\"int\",\"t\":\"text\"}}},\"projections\":{\"p\":{\"fields\":{\"k\":5},\"on\":{\"made\":{\"announce\":true}}}},\"revision\":1,\"sagas\":{\"g\":{\"fields\":{},\"on\":{\"made\":{\"by\":\"k\"}}}},\"sheet\":\"s\",\"upcast\":[]}")
-unfolding sheets_on_literals expr_data rule_data rules_data template_data command_data act_data upcaster_data changes_data handler_data saga_data head_data sheet_data sheet_text
-sheet_empty_optionals = ap (option_map sheet_text) (ascii_sheet empty_optionals_text refl)
-
-abbrev doubled_text : Line
-doubled_text = codes "{\"sheet\":\"s\",\"revision\":\"x\",\"revision\":7,\"aggregate\":{\"fields\":{\"n\":0},\"on\":{\"made\":{\"sets\":{\"n\":[\"+\",\"n\",1]}}}},\"commands\":{\"make\":{\"params\":{\"a\":\"int\",\"t\":\"text\"},\"guards\":[[\"<\",\"n\",2]],\"events\":[[\"made\",1,{\"a\":\"$a\",\"t\":\"$t\"}]]}},\"upcast\":[],\"projections\":{\"p\":{\"fields\":{\"k\":5},\"on\":{\"made\":{\"announce\":true}}}},\"sagas\":{\"g\":{\"fields\":{},\"on\":{\"made\":{\"by\":\"@\",\"start\":true,\"send\":[[\"make\",\"@\",{\"a\":1,\"t\":\"x\"}]]}}}}}"
-
-pub sheet_doubled : again doubled_text ≡ Some (codes "{\"aggregate\":{\"fields\":{\"n\":0},\"on\":{\"made\":{\"sets\":{\"n\":[\"+\",\"n\",1]}}}},\"commands\":{\"make\":{\"events\":[[\"made\",1,{\"a\":\"$a\",\"t\":\"$t\"}]],\"guards\":[[\"<\",\"n\",2]],\"params\":{\"a\":\"int\",\"t\":\"text\"}}},\"projections\":{\"p\":{\"fields\":{\"k\":5},\"on\":{\"made\":{\"announce\":true}}}},\"revision\":7,\"sagas\":{\"g\":{\"fields\":{},\"on\":{\"made\":{\"by\":\"@\",\"send\":[[\"make\",\"@\",{\"a\":1,\"t\":\"x\"}]],\"start\":true}}}},\"sheet\":\"s\",\"upcast\":[]}")
-unfolding sheets_on_literals expr_data rule_data rules_data template_data command_data act_data upcaster_data changes_data handler_data saga_data head_data sheet_data sheet_text
-sheet_doubled = ap (option_map sheet_text) (ascii_sheet doubled_text refl)
-
-abbrev escaped_text : Line
-escaped_text = codes "{\"\\u0073heet\":\"s\",\"revision\":1,\"aggregate\":{\"fields\":{\"n\":0},\"on\":{\"made\":{\"sets\":{\"n\":[\"+\",\"n\",1]}}}},\"commands\":{\"make\":{\"params\":{\"a\":\"int\",\"t\":\"text\"},\"guards\":[[\"<\",\"n\",2]],\"events\":[[\"made\",1,{\"a\":\"$a\",\"t\":\"$t\"}]]}},\"upcast\":[],\"projections\":{\"p\":{\"fields\":{\"k\":5},\"on\":{\"made\":{\"announce\":true}}}},\"sagas\":{\"g\":{\"fields\":{},\"on\":{\"made\":{\"by\":\"@\",\"start\":true,\"send\":[[\"make\",\"@\",{\"a\":1,\"t\":\"x\"}]]}}}}}"
-
-pub sheet_escaped : again escaped_text ≡ Some (codes "{\"aggregate\":{\"fields\":{\"n\":0},\"on\":{\"made\":{\"sets\":{\"n\":[\"+\",\"n\",1]}}}},\"commands\":{\"make\":{\"events\":[[\"made\",1,{\"a\":\"$a\",\"t\":\"$t\"}]],\"guards\":[[\"<\",\"n\",2]],\"params\":{\"a\":\"int\",\"t\":\"text\"}}},\"projections\":{\"p\":{\"fields\":{\"k\":5},\"on\":{\"made\":{\"announce\":true}}}},\"revision\":1,\"sagas\":{\"g\":{\"fields\":{},\"on\":{\"made\":{\"by\":\"@\",\"send\":[[\"make\",\"@\",{\"a\":1,\"t\":\"x\"}]],\"start\":true}}}},\"sheet\":\"s\",\"upcast\":[]}")
-unfolding sheets_on_literals expr_data rule_data rules_data template_data command_data act_data upcaster_data changes_data handler_data saga_data head_data sheet_data sheet_text
-sheet_escaped = ap (option_map sheet_text) (ascii_sheet escaped_text refl)
-
-abbrev minus_zero_text : Line
-minus_zero_text = codes "{\"sheet\":\"s\",\"revision\":1,\"aggregate\":{\"fields\":{\"n\":-0},\"on\":{\"made\":{\"sets\":{\"n\":[\"+\",\"n\",1]}}}},\"commands\":{\"make\":{\"params\":{\"a\":\"int\",\"t\":\"text\"},\"guards\":[[\"<\",\"n\",2]],\"events\":[[\"made\",1,{\"a\":\"$a\",\"t\":\"$t\"}]]}},\"upcast\":[],\"projections\":{\"p\":{\"fields\":{\"k\":5},\"on\":{\"made\":{\"announce\":true}}}},\"sagas\":{\"g\":{\"fields\":{},\"on\":{\"made\":{\"by\":\"@\",\"start\":true,\"send\":[[\"make\",\"@\",{\"a\":1,\"t\":\"x\"}]]}}}}}"
-
-pub sheet_minus_zero : again minus_zero_text ≡ None
-unfolding sheets_on_literals expr_data rule_data rules_data template_data command_data act_data upcaster_data changes_data handler_data saga_data head_data sheet_data sheet_text
-sheet_minus_zero = ap (option_map sheet_text) (ascii_sheet minus_zero_text refl)
+sheet_minus_zero : again (given (record usual { fields = codes "\"n\":-0" })) ≡ None
+unfolding sheets_and_texts
+sheet_minus_zero = ap (option_map sheet_text) (ascii_sheet (given (record usual { fields = codes "\"n\":-0" })) refl)

@@ -12,7 +12,8 @@ use Rattle.serde_json.specs.Data.{Num, unsigned, negative, float, Data, null, bo
 use Rattle.serde_json.specs.Find.{get, get_member}
 use Rattle.serde_json.specs.Read.{is_integer, float_of, number_from, number_of, of_json, of_items, of_members, max_depth, read}
 use Rattle.ax_values.specs.Grammar.{Line}
-use Rattle.ax_values.proofs.Options.{both, and-true, then-some, map-some}
+use Rattle.ax_laws.proofs.Tests.{both, and-true}
+use Rattle.ax_values.proofs.Options.{then-some, map-some}
 
 abbrev pub leads : Line → Members → Bool
 leads k no_members = true

@@ -1,5 +1,5 @@
 -- What is written for a part is the JSON that it was read from.
-use Rattle.std.proofs.Common.{◌≡◌, ◌^◌, ℕ, Bool, true, false, ◌&&◌, List, [], ◌∷◌, map, fold, Option, Some, None, Ordering, Less, Equal, Greater, is_lt, nat_cmp, ℤ, pos, negsuc, nat_lt, refl, sym, ap, ◌∙◌}
+use Rattle.std.proofs.Common.{◌≡◌, ◌^◌, ℕ, Bool, true, false, ◌&&◌, List, [], ◌∷◌, map, fold, Option, Some, None, Greater, is_lt, nat_cmp, ℤ, pos, negsuc, nat_lt, refl, sym, ap, ◌∙◌}
 use Rattle.std.proofs.lemmas.Cmp.{nat_list_cmp_total}
 use Rattle.std.specs.Cmp.Lexicographic.{slice_cmp}
 use Rattle.std.specs.Ordering.{match_ordering, ordering_reverse}
@@ -8,13 +8,12 @@ use Rattle.serde_json.specs.Data.{Num, unsigned, negative, float, Data, null, bo
 use Rattle.serde_json.specs.Find.{as_i64, as_str, as_array, as_object, of_integer}
 use Rattle.serde_json.specs.View.{items_of}
 use Rattle.ax_values.specs.Grammar.{Name, Line, name_in, is_name}
-use Rattle.ax_values.proofs.Options.{both, and-true, when-some, then-some, map-some}
-use Rattle.ax_sheet.specs.Members.{small, int_of, small_of, name_of, each_item, list_of, Pair, Triple, two_items, three_items, pair_of, triple_of, each_member, named_of}
-use Rattle.ax_sheet.specs.Text.{list_data, two_data, three_data, members_data, named_data, int_data, small_data}
+use Rattle.ax_laws.proofs.Tests.{both, and-true, is-less}
+use Rattle.ax_laws.proofs.Options.{some-is}
+use Rattle.ax_values.proofs.Options.{when-some, then-some, map-some}
+use Rattle.ax_sheet_rules.specs.Members.{small, int_of, small_of, name_of, each_item, list_of, Pair, Triple, two_items, three_items, pair_of, triple_of, each_member, named_of}
+use Rattle.ax_sheet_writing.specs.Text.{list_data, two_data, three_data, members_data, named_data, int_data, small_data}
 use Rattle.ax_sheet.proofs.Proper.{leads, is_proper, proper, items_proper, members_proper}
-
-pub some_is : {A : Type 0} (x y : A) → Some x ≡ Some y → x ≡ y
-some_is x y h = cc
 
 -- ---- values
 
@@ -22,7 +21,7 @@ pub string_is : (d : Data) (s : Line) → as_str d ≡ Some s → string s ≡ d
 string_is null s h = cc
 string_is (boolean b) s h = cc
 string_is (number n) s h = cc
-string_is (string t) s h = ap string (sym (some_is t s h))
+string_is (string t) s h = ap string (sym (some-is t s h))
 string_is (array ds) s h = cc
 string_is (object ms) s h = cc
 
@@ -31,7 +30,7 @@ array_is null ds h = cc
 array_is (boolean b) ds h = cc
 array_is (number n) ds h = cc
 array_is (string t) ds h = cc
-array_is (array es) ds h = ap array (sym (some_is es ds h))
+array_is (array es) ds h = ap array (sym (some-is es ds h))
 array_is (object ms) ds h = cc
 
 pub object_is : (d : Data) (ms : Members) → as_object d ≡ Some ms → object ms ≡ d
@@ -40,16 +39,16 @@ object_is (boolean b) ms h = cc
 object_is (number n) ms h = cc
 object_is (string t) ms h = cc
 object_is (array es) ms h = cc
-object_is (object ns) ms h = ap object (sym (some_is ns ms h))
+object_is (object ns) ms h = ap object (sym (some-is ns ms h))
 
 unsigned_same : (b : Bool) (n : ℕ) (z : ℤ) → (if b then Some (pos n) else None) ≡ Some z → of_integer z ≡ unsigned n
-unsigned_same true n z h = ap of_integer (sym (some_is (pos n) z h))
+unsigned_same true n z h = ap of_integer (sym (some-is (pos n) z h))
 unsigned_same false n z h = cc
 
 number_same : (n : Num) (z : ℤ) → is_proper n ≡ true → as_i64 n ≡ Some z → of_integer z ≡ n
 number_same (unsigned n) z p h = unsigned_same (nat_lt n (2 ^ 63)) n z h
 number_same (negative (pos n)) z p h = cc
-number_same (negative (negsuc n)) z p h = ap of_integer (sym (some_is (negsuc n) z h))
+number_same (negative (negsuc n)) z p h = ap of_integer (sym (some-is (negsuc n) z h))
 number_same (float x) z p h = cc
 
 pub int_same : (d : Data) (z : ℤ) → proper d ≡ true → int_of d ≡ Some z → int_data z ≡ d
@@ -77,7 +76,7 @@ name_same d n h = let s = then-some (as_str d) name_in n h in ap string (sym (na
 
 pub items_same : {A : Type 0} (one : Data → Option A) (write : A → Data) → ((d : Data) (x : A) → proper d ≡ true → one d ≡ Some x → write x ≡ d) → (ds : Items) (xs : List A) → items_proper ds ≡ true →
     each_item one ds ≡ Some xs → items_of (map write xs) ≡ ds
-items_same one write same no_items xs p h = ap (λ xs. items_of (map write xs)) (sym (some_is [] xs h))
+items_same one write same no_items xs p h = ap (λ xs. items_of (map write xs)) (sym (some-is [] xs h))
 items_same one write same (item d ds) xs p h =
     let b = both (proper d) (items_proper ds) p in
     let x = then-some (one d) _ xs h in
@@ -94,14 +93,14 @@ list_same one write same d xs p h =
 pub two_same : (ds : Items) (t : Pair) → two_items ds ≡ Some t → items_of (t.first ∷ t.second ∷ []) ≡ ds
 two_same no_items t h = cc
 two_same (item a no_items) t h = cc
-two_same (item a (item b no_items)) t h = ap (λ (t : Pair). items_of (t.first ∷ t.second ∷ [])) (sym (some_is _ t h))
+two_same (item a (item b no_items)) t h = ap (λ (t : Pair). items_of (t.first ∷ t.second ∷ [])) (sym (some-is _ t h))
 two_same (item a (item b (item c ds))) t h = cc
 
 pub three_same : (ds : Items) (t : Triple) → three_items ds ≡ Some t → items_of (t.first ∷ t.second ∷ t.third ∷ []) ≡ ds
 three_same no_items t h = cc
 three_same (item a no_items) t h = cc
 three_same (item a (item b no_items)) t h = cc
-three_same (item a (item b (item c no_items))) t h = ap (λ (t : Triple). items_of (t.first ∷ t.second ∷ t.third ∷ [])) (sym (some_is _ t h))
+three_same (item a (item b (item c no_items))) t h = ap (λ (t : Triple). items_of (t.first ∷ t.second ∷ t.third ∷ [])) (sym (some-is _ t h))
 three_same (item a (item b (item c (item d ds)))) t h = cc
 
 -- a list of two or three, whose items are proper
@@ -163,16 +162,11 @@ abbrev rises : Members → Bool
 rises no_members = true
 rises (member k d ms) = all_above k ms && rises ms
 
-is_less : (o : Ordering) → is_lt o ≡ true → o ≡ Less
-is_less Less h = refl
-is_less Equal h = cc
-is_less Greater h = cc
-
 above_more : (k l : Line) (ms : Members) → is_lt (slice_cmp nat_cmp k l) ≡ true → all_above l ms ≡ true → all_above k ms ≡ true
 above_more k l no_members p q = refl
 above_more k l (member m e ms) p q =
     let b = both (is_lt (slice_cmp nat_cmp l m)) (all_above l ms) q in
-    and-true (is_lt (slice_cmp nat_cmp k m)) (all_above k ms) (ap is_lt (nat_list_cmp_total.trans k l m (is_less _ p) (is_less _ b.0))) (above_more k l ms p b.1)
+    and-true (is_lt (slice_cmp nat_cmp k m)) (all_above k ms) (ap is_lt (nat_list_cmp_total.trans k l m (is-less _ p) (is-less _ b.0))) (above_more k l ms p b.1)
 
 above_lead : (k : Line) (ms : Members) → leads k ms ≡ true → rises ms ≡ true → all_above k ms ≡ true
 above_lead k no_members p q = refl
@@ -191,7 +185,7 @@ put_after : (k : Line) (d : Data) (ms ns : Members) → rises (join ms (member k
 put_after k d no_members ns h = refl
 put_after k d (member l e ms) ns h =
     let b = both (all_above l (join ms (member k d ns))) (rises (join ms (member k d ns))) h in
-    let greater : slice_cmp nat_cmp k l ≡ Greater = nat_list_cmp_total.antisymm k l ∙ ap ordering_reverse (is_less _ (above_joined l k d ms ns b.0)) in
+    let greater : slice_cmp nat_cmp k l ≡ Greater = nat_list_cmp_total.antisymm k l ∙ ap ordering_reverse (is-less _ (above_joined l k d ms ns b.0)) in
     ap (λ o. match_ordering o (member k d (member l e ms)) (member l d ms) (member l e (put k d ms))) greater ∙ ap (member l e) (put_after k d ms ns b.1)
   where
     above_joined : (l k : Line) (d : Data) (ms ns : Members) → all_above l (join ms (member k d ns)) ≡ true → is_lt (slice_cmp nat_cmp l k) ≡ true
@@ -220,7 +214,7 @@ put_in_order name write ms xs p e = folded name write xs no_members (ap rises e 
 
 above_same : {A : Type 0} (one : Name → Data → Option A) (name : A → Name) (write : A → Data) → ((n : Name) (d : Data) (x : A) → one n d ≡ Some x → name x ≡ n) → (k : Line) (ms : Members) (xs : List A) →
     each_member one ms ≡ Some xs → all_above k (plain name write xs) ≡ all_above k ms
-above_same one name write named k no_members xs h = ap (λ xs. all_above k (plain name write xs)) (sym (some_is [] xs h))
+above_same one name write named k no_members xs h = ap (λ xs. all_above k (plain name write xs)) (sym (some-is [] xs h))
 above_same one name write named k (member l d ms) xs h =
     let n = then-some (name_in l) _ xs h in
     let x = then-some (one n.from d) _ xs n.gives in
@@ -231,7 +225,7 @@ above_same one name write named k (member l d ms) xs h =
 
 rises_same : {A : Type 0} (one : Name → Data → Option A) (name : A → Name) (write : A → Data) → ((n : Name) (d : Data) (x : A) → one n d ≡ Some x → name x ≡ n) → (ms : Members) (xs : List A) →
     each_member one ms ≡ Some xs → rises (plain name write xs) ≡ rises ms
-rises_same one name write named no_members xs h = ap (λ xs. rises (plain name write xs)) (sym (some_is [] xs h))
+rises_same one name write named no_members xs h = ap (λ xs. rises (plain name write xs)) (sym (some-is [] xs h))
 rises_same one name write named (member l d ms) xs h =
     let n = then-some (name_in l) _ xs h in
     let x = then-some (one n.from d) _ xs n.gives in
@@ -248,7 +242,7 @@ in_order one name write named ms xs p h = folded name write xs no_members (rises
 
 plain_same : {A : Type 0} (one : Name → Data → Option A) (name : A → Name) (write : A → Data) → ((n : Name) (d : Data) (x : A) → proper d ≡ true → one n d ≡ Some x → (name x ≡ n) × (write x ≡ d)) →
     (ms : Members) (xs : List A) → members_proper ms ≡ true → each_member one ms ≡ Some xs → plain name write xs ≡ ms
-plain_same one name write same no_members xs p h = ap (plain name write) (sym (some_is [] xs h))
+plain_same one name write same no_members xs p h = ap (plain name write) (sym (some-is [] xs h))
 plain_same one name write same (member l d ms) xs p h =
     let b = both (proper d) (leads l ms && members_proper ms) p in
     let c = both (leads l ms) (members_proper ms) b.1 in

@@ -10,7 +10,9 @@ use Rattle.serde_json.specs.View.{items_of}
 use Rattle.ax_values.specs.Grammar.{Name, Line, ◌>>=◌, when, name_in, is_content, after_front}
 use Rattle.ax_values.specs.declared.value.Value.{Value}
 use Rattle.ax_values.specs.declared.given.Given.{Given}
-use Rattle.ax_values.proofs.Options.{both, when-some, then-some, map-some}
+use Rattle.ax_laws.proofs.Tests.{both}
+use Rattle.ax_laws.proofs.Options.{some-is}
+use Rattle.ax_values.proofs.Options.{when-some, then-some, map-some}
 use Rattle.ax_rules.specs.Nodes.{expr_of as seen}
 use Rattle.ax_rules.specs.declared.expr.Expr.{Expr}
 use Rattle.ax_rules.specs.declared.guard.Test.{Test}
@@ -25,15 +27,16 @@ use Rattle.ax_rules.specs.declared.saga_rules.Dispatch.{Dispatch}
 use Rattle.ax_upcast.specs.declared.event.GivenField.{GivenField}
 use Rattle.ax_upcast.specs.declared.event.Template.{Template}
 use Rattle.ax_upcast.specs.declared.upcaster.Act.{Act}
-use Rattle.ax_sheet.specs.Members.{int_of, small_of, name_of, list_of, only_item, two_items, three_items, pair_of, triple_of, named_of}
-use Rattle.ax_sheet.specs.Names.{anything, nothing}
-use Rattle.ax_sheet.specs.Sheet.{are_parts}
-use Rattle.ax_sheet.specs.declared.params.Param.{Param}
-use Rattle.ax_sheet.specs.declared.parts.NamedCommand.{NamedCommand}
-use Rattle.ax_sheet.specs.Shape.{place_from, place_of, copied, leaf_by, leaf_of, operation_of, expr_by, expr_of, most_deep, test_of, guard_of, guards_of, set_of, sets_of, most_fields, initial_of, fields_of, given_text, given_of, given_field_of, template_of, templates_of, kind_of, param_of, most_params, params_of, value_of_given, value_of, rename_of, default_of, retype_of, split_of, remove_of, act_in, act_of, key_in, from_in, key_of, from_of, association_of, suits, given_param_of, each_param, given_params_of, command_in, dispatch_of}
-use Rattle.ax_sheet.specs.Text.{two_data, three_data, list_data, int_data, small_data, value_data, given_data, name_or_none, field_name, expr_data, test_text, guard_data, guards_data, sets_data, fields_data, given_fields_data, template_data, kind_text, params_data, act_data, key_data, from_data, association_data, given_params_data, dispatch_data}
+use Rattle.ax_sheet_rules.specs.Members.{int_of, small_of, name_of, list_of, only_item, two_items, three_items, pair_of, triple_of, named_of}
+use Rattle.ax_sheet_rules.specs.Names.{anything, nothing}
+use Rattle.ax_sheet_parts.specs.Sheet.{are_parts}
+use Rattle.ax_sheet_parts.specs.declared.params.Param.{Param}
+use Rattle.ax_sheet_parts.specs.declared.parts.NamedCommand.{NamedCommand}
+use Rattle.ax_sheet_rules.specs.Shape.{place_from, place_of, copied, leaf_by, leaf_of, operation_of, expr_by, expr_of, most_deep, guard_of, guards_of, set_of, sets_of, most_fields, initial_of, fields_of, given_text, given_of, given_field_of, template_of, templates_of, kind_of, param_of, most_params, params_of, value_of_given, value_of, rename_of, default_of, retype_of, split_of, remove_of, act_in, act_of, key_in, from_in, key_of, from_of, association_of, suits, given_param_of, each_param, given_params_of, command_in, dispatch_of}
+use Rattle.ax_sheet_writing.specs.Text.{two_data, three_data, list_data, int_data, small_data, value_data, given_data, name_or_none, field_name, expr_data, test_text, guard_data, guards_data, sets_data, fields_data, given_fields_data, template_data, kind_text, params_data, act_data, key_data, from_data, association_data, given_params_data, dispatch_data}
+use Rattle.ax_sheet_rules.proofs.Apart.{guard_parts}
 use Rattle.ax_sheet.proofs.Proper.{leads, proper, items_proper, members_proper}
-use Rattle.ax_sheet.proofs.Same.{some_is, string_is, array_is, object_is, int_same, small_same, name_is, name_same, list_same, two_same, three_same, two_parts, two_inside, three_parts, three_inside, plain, put_in_order, named_same}
+use Rattle.ax_sheet.proofs.Same.{string_is, array_is, object_is, int_same, small_same, name_is, name_same, list_same, two_same, three_same, two_parts, two_inside, three_parts, three_inside, plain, put_in_order, named_same}
 
 three_alike : (a b c d e f : Data) → a ≡ d → b ≡ e → c ≡ f → three_data a b c ≡ three_data d e f
 three_alike a b c d e f p q r = ap (λ a. three_data a b c) p ∙ ap (λ b. three_data d b c) q ∙ ap (λ c. three_data d e c) r
@@ -45,7 +48,7 @@ two_alike a b c d p q = ap (λ a. two_data a b) p ∙ ap (λ b. two_data c b) q
 
 place_step : (b : Bool) (f : Initial) (all : List Initial) (k p : ℕ) (s : Line) (later : Option ℕ) → bytes_eq f.name s ≡ b → field_name all k ≡ f.name → (later ≡ Some p → field_name all p ≡ s) →
     (if b then Some k else later) ≡ Some p → field_name all p ≡ s
-place_step true f all k p s later e here more h = ap (field_name all) (sym (some_is k p h)) ∙ here ∙ (bytes_eq-Decides f.name s).0 e
+place_step true f all k p s later e here more h = ap (field_name all) (sym (some-is k p h)) ∙ here ∙ (bytes_eq-Decides f.name s).0 e
 place_step false f all k p s later e here more h = more h
 
 place_name : (all fs : List Initial) (k p : ℕ) (s : Line) → ((j : ℕ) → slice_get all (k + j) ≡ slice_get fs j) → place_from k fs s ≡ Some p → field_name all p ≡ s
@@ -66,12 +69,12 @@ copied_same (c ∷ cs) n h =
     let w = when-some (c == 36) cs u.from u.held in
     let here : (c == 36) ≡ true = w.0 in
     let e : c ≡ 36 = grind (arith, nat_tests, here) in
-    ap (λ c. c ∷ n) (sym e) ∙ ap (λ n. c ∷ n) (sym (w.1 ∙ some_is u.from t.from u.gives ∙ name_is t.from n t.gives))
+    ap (λ c. c ∷ n) (sym e) ∙ ap (λ n. c ∷ n) (sym (w.1 ∙ some-is u.from t.from u.gives ∙ name_is t.from n t.gives))
 
 leaf_case : (takes : Name → Bool) (fs : List Initial) (s : Line) (p : Option ℕ) (m : Option Name) (x : Expr) → ((k : ℕ) → p ≡ Some k → field_name fs k ≡ s) → ((n : Name) → m ≡ Some n → 36 ∷ n ≡ s) →
     leaf_by takes p m ≡ Some x → expr_data fs (seen x) ≡ string s
 unfolding expr_data
-leaf_case takes fs s (Some k) m x at copy h = ap (λ x. expr_data fs (seen x)) (sym (some_is (Expr.Field k) x h)) ∙ ap string (at k refl)
+leaf_case takes fs s (Some k) m x at copy h = ap (λ x. expr_data fs (seen x)) (sym (some-is (Expr.Field k) x h)) ∙ ap string (at k refl)
 leaf_case takes fs s None None x at copy h = cc
 leaf_case takes fs s None (Some n) x at copy h = ap (λ x. expr_data fs (seen x)) (sym (when-some (takes n) (Expr.Arg n) x h).1) ∙ ap string (copy n refl)
 
@@ -83,11 +86,11 @@ operation_case : (a b c : Bool) (fs : List Initial) (op : Line) (e f x : Expr) �
     expr_data fs (seen x) ≡ three_data (string op) (expr_data fs (seen e)) (expr_data fs (seen f))
 unfolding expr_data
 operation_case true b c fs op e f x p q r h =
-    ap (λ x. expr_data fs (seen x)) (sym (some_is _ x h)) ∙ ap (λ w. three_data (string w) (expr_data fs (seen e)) (expr_data fs (seen f))) (sym ((bytes_eq-Decides op (codes "+")).0 p))
+    ap (λ x. expr_data fs (seen x)) (sym (some-is _ x h)) ∙ ap (λ w. three_data (string w) (expr_data fs (seen e)) (expr_data fs (seen f))) (sym ((bytes_eq-Decides op (codes "+")).0 p))
 operation_case false true c fs op e f x p q r h =
-    ap (λ x. expr_data fs (seen x)) (sym (some_is _ x h)) ∙ ap (λ w. three_data (string w) (expr_data fs (seen e)) (expr_data fs (seen f))) (sym ((bytes_eq-Decides op (codes "-")).0 q))
+    ap (λ x. expr_data fs (seen x)) (sym (some-is _ x h)) ∙ ap (λ w. three_data (string w) (expr_data fs (seen e)) (expr_data fs (seen f))) (sym ((bytes_eq-Decides op (codes "-")).0 q))
 operation_case false false true fs op e f x p q r h =
-    ap (λ x. expr_data fs (seen x)) (sym (some_is _ x h)) ∙ ap (λ w. three_data (string w) (expr_data fs (seen e)) (expr_data fs (seen f))) (sym ((bytes_eq-Decides op (codes "*")).0 r))
+    ap (λ x. expr_data fs (seen x)) (sym (some-is _ x h)) ∙ ap (λ w. three_data (string w) (expr_data fs (seen e)) (expr_data fs (seen f))) (sym ((bytes_eq-Decides op (codes "*")).0 r))
 operation_case false false false fs op e f x p q r h = cc
 
 operation_same : (side : Data → Option Expr) (fs : List Initial) → ((d : Data) (e : Expr) → proper d ≡ true → side d ≡ Some e → expr_data fs (seen e) ≡ d) → (ds : Items) (x : Expr) → items_proper ds ≡ true →
@@ -125,25 +128,20 @@ expr_same fs takes (suc room) d x p h =
 
 test_case : (a b c d : Bool) (w : Line) (t : Test) → bytes_eq w (codes "=") ≡ a → bytes_eq w (codes "!=") ≡ b → bytes_eq w (codes "<") ≡ c → bytes_eq w (codes "<=") ≡ d →
     (if a then Some Test.Equal else (if b then Some Test.Differ else (if c then Some Test.Less else when d Test.AtMost))) ≡ Some t → test_text t ≡ w
-test_case true b c d w t p q r s h = ap test_text (sym (some_is Test.Equal t h)) ∙ sym ((bytes_eq-Decides w (codes "=")).0 p)
-test_case false true c d w t p q r s h = ap test_text (sym (some_is Test.Differ t h)) ∙ sym ((bytes_eq-Decides w (codes "!=")).0 q)
-test_case false false true d w t p q r s h = ap test_text (sym (some_is Test.Less t h)) ∙ sym ((bytes_eq-Decides w (codes "<")).0 r)
-test_case false false false true w t p q r s h = ap test_text (sym (some_is Test.AtMost t h)) ∙ sym ((bytes_eq-Decides w (codes "<=")).0 s)
+test_case true b c d w t p q r s h = ap test_text (sym (some-is Test.Equal t h)) ∙ sym ((bytes_eq-Decides w (codes "=")).0 p)
+test_case false true c d w t p q r s h = ap test_text (sym (some-is Test.Differ t h)) ∙ sym ((bytes_eq-Decides w (codes "!=")).0 q)
+test_case false false true d w t p q r s h = ap test_text (sym (some-is Test.Less t h)) ∙ sym ((bytes_eq-Decides w (codes "<")).0 r)
+test_case false false false true w t p q r s h = ap test_text (sym (some-is Test.AtMost t h)) ∙ sym ((bytes_eq-Decides w (codes "<=")).0 s)
 test_case false false false false w t p q r s h = cc
 
 guard_same : (fs : List Initial) (takes : Name → Bool) (d : Data) (g : Guard) → proper d ≡ true → guard_of fs takes d ≡ Some g → guard_data fs g ≡ d
-unfolding guard_of
 guard_same fs takes d g p h =
-    let t = then-some (triple_of d) _ g h in
-    let op = then-some (as_str t.from.first) _ g t.gives in
-    let test = then-some (test_of op.from) _ g op.gives in
-    let left = then-some (expr_of fs takes most_deep t.from.second) _ g test.gives in
-    let right = then-some (expr_of fs takes most_deep t.from.third) _ g left.gives in
-    let parts = three_parts d t.from p t.held in
-    ap (guard_data fs) (sym (some_is _ g right.gives))
-    ∙ three_alike (string (test_text test.from)) (expr_data fs (seen left.from)) (expr_data fs (seen right.from)) t.from.first t.from.second t.from.third
-    (ap string (test_case _ _ _ _ op.from test.from refl refl refl refl test.held) ∙ string_is t.from.first op.from op.held)
-    (expr_same fs takes most_deep t.from.second left.from parts.second left.held) (expr_same fs takes most_deep t.from.third right.from parts.third right.held)
+    let g = guard_parts fs takes d g h in
+    let parts = three_parts d g.triple p g.is_triple in
+    ap (guard_data fs) g.made
+    ∙ three_alike (string (test_text g.test)) (expr_data fs (seen g.left)) (expr_data fs (seen g.right)) g.triple.first g.triple.second g.triple.third
+    (ap string (test_case _ _ _ _ g.word g.test refl refl refl refl g.is_test) ∙ string_is g.triple.first g.word g.is_word)
+    (expr_same fs takes most_deep g.triple.second g.left parts.second g.is_left) (expr_same fs takes most_deep g.triple.third g.right parts.third g.is_right)
     ∙ parts.is
 
 pub guards_same : (fs : List Initial) (takes : Name → Bool) (d : Data) (gs : List Guard) → proper d ≡ true → guards_of fs takes d ≡ Some gs → guards_data fs gs ≡ d
@@ -218,7 +216,7 @@ template_same takes d x p h =
     let revision = then-some (small_of t.from.second) _ x kind.gives in
     let fields = then-some (named_of (given_field_of takes) t.from.third) _ x revision.gives in
     let parts = three_parts d t.from p t.held in
-    ap template_data (sym (some_is _ x fields.gives))
+    ap template_data (sym (some-is _ x fields.gives))
     ∙ three_alike (string kind.from) (small_data revision.from) (given_fields_data fields.from) t.from.first t.from.second t.from.third
     (name_same t.from.first kind.from kind.held) (small_same t.from.second revision.from parts.second revision.held)
     (named_same (given_field_of takes) (λ (g : GivenField). g.name) (λ g. given_data g.given) (given_field_named takes) (given_field_same takes) t.from.third fields.from parts.third fields.held)
@@ -234,8 +232,8 @@ templates_same takes d xs p h =
 -- ---- parameters
 
 kind_case : (a b : Bool) (w : Line) (k : ParamKind) → bytes_eq w (codes "int") ≡ a → bytes_eq w (codes "text") ≡ b → (if a then Some ParamKind.Int else when b ParamKind.Text) ≡ Some k → kind_text k ≡ w
-kind_case true b w k p q h = ap kind_text (sym (some_is ParamKind.Int k h)) ∙ sym ((bytes_eq-Decides w (codes "int")).0 p)
-kind_case false true w k p q h = ap kind_text (sym (some_is ParamKind.Text k h)) ∙ sym ((bytes_eq-Decides w (codes "text")).0 q)
+kind_case true b w k p q h = ap kind_text (sym (some-is ParamKind.Int k h)) ∙ sym ((bytes_eq-Decides w (codes "int")).0 p)
+kind_case false true w k p q h = ap kind_text (sym (some-is ParamKind.Text k h)) ∙ sym ((bytes_eq-Decides w (codes "text")).0 q)
 kind_case false false w k p q h = cc
 
 param_named : (n : Name) (d : Data) (x : Param) → param_of n d ≡ Some x → x.name ≡ n
@@ -262,7 +260,7 @@ params_same d xs p h =
 -- ---- acts
 
 value_case : (g : Given) (v : Value) → value_of_given g ≡ Some v → value_data v ≡ given_data g
-value_case (Given.Just w) v h = ap value_data (sym (some_is w v h))
+value_case (Given.Just w) v h = ap value_data (sym (some-is w v h))
 value_case (Given.Copy n) v h = cc
 
 value_same : (d : Data) (v : Value) → proper d ≡ true → value_of d ≡ Some v → value_data v ≡ d
@@ -286,7 +284,7 @@ rename_same ds a p h =
     let new = then-some (name_of t.from.second) _ a old.gives in
     let r = then-some (small_of t.from.third) _ a new.gives in
     let parts = three_inside ds t.from p t.held in
-    ap act_data (sym (some_is _ a r.gives))
+    ap act_data (sym (some-is _ a r.gives))
     ∙ behind_three (codes "rename") (string old.from) (string new.from) (small_data r.from) t.from.first t.from.second t.from.third ds (name_same t.from.first old.from old.held)
     (name_same t.from.second new.from new.held) (small_same t.from.third r.from parts.third r.held) (three_same ds t.from t.held)
 
@@ -298,7 +296,7 @@ default_same ds a p h =
     let value = then-some (value_of t.from.second) _ a name.gives in
     let r = then-some (small_of t.from.third) _ a value.gives in
     let parts = three_inside ds t.from p t.held in
-    ap act_data (sym (some_is _ a r.gives))
+    ap act_data (sym (some-is _ a r.gives))
     ∙ behind_three (codes "default") (string name.from) (value_data value.from) (small_data r.from) t.from.first t.from.second t.from.third ds (name_same t.from.first name.from name.held)
     (value_same t.from.second value.from parts.second value.held) (small_same t.from.third r.from parts.third r.held) (three_same ds t.from t.held)
 
@@ -313,13 +311,13 @@ retype_same ds a p h =
     let kind = then-some (name_of t.from.first) _ a t.gives in
     let r = then-some (small_of t.from.second) _ a kind.gives in
     let parts = two_inside ds t.from p t.held in
-    ap act_data (sym (some_is _ a r.gives))
+    ap act_data (sym (some-is _ a r.gives))
     ∙ behind_two (codes "retype") (string kind.from) (small_data r.from) t.from.first t.from.second ds (name_same t.from.first kind.from kind.held)
     (small_same t.from.second r.from parts.second r.held) (two_same ds t.from t.held)
 
 only_same : (ds : Items) (d : Data) → only_item ds ≡ Some d → item d no_items ≡ ds
 only_same no_items d h = cc
-only_same (item a no_items) d h = ap (λ d. item d no_items) (sym (some_is a d h))
+only_same (item a no_items) d h = ap (λ d. item d no_items) (sym (some-is a d h))
 only_same (item a (item b ds)) d h = cc
 
 split_same : (ds : Items) (a : Act) → items_proper ds ≡ true → split_of ds ≡ Some a → Behind (codes "split") ds a
@@ -333,7 +331,7 @@ split_same ds a p h =
 
 remove_same : (ds : Items) (a : Act) → remove_of ds ≡ Some a → Behind (codes "remove") ds a
 unfolding act_data
-remove_same no_items a h = ap act_data (sym (some_is Act.Remove a h))
+remove_same no_items a h = ap act_data (sym (some-is Act.Remove a h))
 remove_same (item d ds) a h = cc
 
 behind_word : (v w : Line) (ds : Items) (a : Act) → bytes_eq w v ≡ true → Behind v ds a → Behind w ds a
@@ -365,7 +363,7 @@ act_same d a p h =
 -- ---- associations and dispatches
 
 key_case : (b : Bool) (w : Line) (k : Source) → bytes_eq w (codes "@") ≡ b → (if b then Some Source.Aggregate else option_map Source.Property (name_in w)) ≡ Some k → key_data k ≡ string w
-key_case true w k e h = ap key_data (sym (some_is Source.Aggregate k h)) ∙ ap string (sym ((bytes_eq-Decides w (codes "@")).0 e))
+key_case true w k e h = ap key_data (sym (some-is Source.Aggregate k h)) ∙ ap string (sym ((bytes_eq-Decides w (codes "@")).0 e))
 key_case false w k e h = let n = map-some (name_in w) Source.Property k h in ap key_data (sym n.gives) ∙ ap string (sym (name_is w n.from n.held))
 
 pub key_same : (d : Data) (k : Source) → proper d ≡ true → key_of d ≡ Some k → key_data k ≡ d
@@ -373,7 +371,7 @@ unfolding key_of
 key_same d k p h = let w = then-some (as_str d) key_in k h in key_case _ w.from k refl w.gives ∙ string_is d w.from w.held
 
 from_case : (b : Bool) (w : Line) (k : Source) → bytes_eq w (codes "@") ≡ b → (if b then Some Source.Aggregate else option_map Source.Property (copied w)) ≡ Some k → from_data k ≡ string w
-from_case true w k e h = ap from_data (sym (some_is Source.Aggregate k h)) ∙ ap string (sym ((bytes_eq-Decides w (codes "@")).0 e))
+from_case true w k e h = ap from_data (sym (some-is Source.Aggregate k h)) ∙ ap string (sym ((bytes_eq-Decides w (codes "@")).0 e))
 from_case false w k e h = let n = map-some (copied w) Source.Property k h in ap from_data (sym n.gives) ∙ ap string (copied_same w n.from n.held)
 
 from_same : (d : Data) (k : Source) → from_of d ≡ Some k → from_data k ≡ d
@@ -387,7 +385,7 @@ association_same d a p h =
     let key = then-some (key_of t.from.first) _ a t.gives in
     let from = then-some (from_of t.from.second) _ a key.gives in
     let parts = two_parts d t.from p t.held in
-    ap association_data (sym (some_is _ a from.gives))
+    ap association_data (sym (some-is _ a from.gives))
     ∙ two_alike (key_data key.from) (from_data from.from) t.from.first t.from.second (key_same t.from.first key.from parts.first key.held) (from_same t.from.second from.from from.held)
     ∙ parts.is
 
@@ -406,7 +404,7 @@ given_param_same q k d x p h =
     )
 
 each_param_same : (qs : List Param) (ms : Members) (xs : List GivenParam) → members_proper ms ≡ true → each_param qs ms ≡ Some xs → plain (λ (x : GivenParam). x.name) (λ x. given_data x.given) xs ≡ ms
-each_param_same [] no_members xs p h = ap (plain (λ (x : GivenParam). x.name) (λ x. given_data x.given)) (sym (some_is [] xs h))
+each_param_same [] no_members xs p h = ap (plain (λ (x : GivenParam). x.name) (λ x. given_data x.given)) (sym (some-is [] xs h))
 each_param_same [] (member k d ms) xs p h = cc
 each_param_same (q ∷ qs) no_members xs p h = cc
 each_param_same (q ∷ qs) (member k d ms) xs p h =
@@ -427,7 +425,7 @@ given_params_same qs d xs p h =
     ap object (put_in_order (λ (x : GivenParam). x.name) (λ x. given_data x.given) ms.from xs r (each_param_same qs ms.from xs r ms.gives)) ∙ is
 
 found_case : (b : Bool) (x c : NamedCommand) (w : Line) (later : Option NamedCommand) → bytes_eq x.name w ≡ b → (later ≡ Some c → c.name ≡ w) → (if b then Some x else later) ≡ Some c → c.name ≡ w
-found_case true x c w later e more h = ap (λ (c : NamedCommand). c.name) (sym (some_is x c h)) ∙ (bytes_eq-Decides x.name w).0 e
+found_case true x c w later e more h = ap (λ (c : NamedCommand). c.name) (sym (some-is x c h)) ∙ (bytes_eq-Decides x.name w).0 e
 found_case false x c w later e more h = more h
 
 command_found : (cs : List NamedCommand) (w : Line) (c : NamedCommand) → command_in cs w ≡ Some c → c.name ≡ w
@@ -443,7 +441,7 @@ dispatch_same commands d x p h =
     let target = then-some (from_of t.from.second) _ x command.gives in
     let params = then-some (given_params_of command.from.command.params t.from.third) _ x target.gives in
     let parts = three_parts d t.from p t.held in
-    ap dispatch_data (sym (some_is _ x params.gives))
+    ap dispatch_data (sym (some-is _ x params.gives))
     ∙ three_alike (string command.from.name) (from_data target.from) (given_params_data params.from) t.from.first t.from.second t.from.third
     (ap string (command_found commands w.from command.from command.held) ∙ string_is t.from.first w.from w.held)
     (from_same t.from.second target.from target.held) (given_params_same command.from.command.params t.from.third params.from parts.third params.held)

@@ -19,9 +19,9 @@ use Rattle.ax_upcast.specs.declared.event.GivenField.{GivenField}
 use Rattle.ax_upcast.specs.declared.event.Template.{Template}
 use Rattle.ax_upcast.specs.declared.upcaster.Act.{Act}
 use Rattle.ax_upcast.specs.declared.upcaster.Upcaster.{Upcaster}
-use Rattle.ax_sheet.specs.Sheet.{Sheet}
-use Rattle.ax_sheet.specs.declared.params.Param.{Param}
-use Rattle.ax_sheet.specs.declared.parts.NamedCommand.{NamedCommand}
+use Rattle.ax_sheet_parts.specs.Sheet.{Sheet}
+use Rattle.ax_sheet_parts.specs.declared.params.Param.{Param}
+use Rattle.ax_sheet_parts.specs.declared.parts.NamedCommand.{NamedCommand}
 
 abbrev pub amount : Expr
 amount = Expr.Arg (codes "amount")

@@ -4,8 +4,8 @@ use Rattle.ax_values.specs.Words.{Payload}
 use Rattle.ax_rules.specs.Expr.{Row}
 use Rattle.ax_upcast.specs.Upcast.{event_of_template}
 use Rattle.ax_upcast.specs.declared.event.Event.{Event}
-use Rattle.ax_sheet.specs.Sheet.{first_failing}
-use Rattle.ax_sheet.specs.declared.parts.Command.{Command}
+use Rattle.ax_sheet_parts.specs.Sheet.{first_failing}
+use Rattle.ax_sheet_parts.specs.Commands.{Command}
 use Rattle.ax_sheet.specs.declared.decision.Decided.{Decided}
 
 abbrev pub decided_by : Option ℕ → List Event → Decided

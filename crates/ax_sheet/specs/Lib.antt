@@ -1,8 +1,9 @@
-pub mod Names
-pub mod Members
-pub mod Sheet
-pub mod Shape
+pub use Rattle.ax_sheet_parts.specs.Commands
+pub use Rattle.ax_sheet_parts.specs.Sheet
+pub use Rattle.ax_sheet_parts.specs.Declarations
+pub use Rattle.ax_sheet_rules.specs.Names
+pub use Rattle.ax_sheet_rules.specs.Members
+pub use Rattle.ax_sheet_rules.specs.Shape
+pub use Rattle.ax_sheet_writing.specs.Text
 pub mod Decision
 pub mod Cards
-pub mod Text
-pub mod Declarations

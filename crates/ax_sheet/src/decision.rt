@@ -3,13 +3,14 @@ ghost use Rattle.std.specs.List.{list_all};
 ghost use Rattle.ax_values.specs.Words.{same_name};
 ghost use Rattle.ax_rules.specs.Guards.{guard_fits, guard_holds};
 ghost use Rattle.ax_upcast.specs.Upcast.{event_of_template};
-ghost use Rattle.ax_sheet.specs.Sheet.{is_held, first_failing, fits, fits_params, is_kind};
+ghost use Rattle.ax_sheet_parts.specs.Sheet.{is_held, first_failing, fits, fits_params, is_kind};
 ghost use Rattle.ax_sheet.specs.Decision.{decision};
 
-use crate::{Command, Param};
-use ax_rules::{Guard, ParamKind, Row};
-use ax_upcast::{Event, Template};
-use ax_values::{Field, ListOf, NoMemory, Payload, Value};
+use crate::{Command, Event, Param};
+use ax_rules::{Guard, Row};
+use ax_sheet_parts::is_kind;
+use ax_upcast::Template;
+use ax_values::{Field, ListOf, NoMemory, Payload};
 use std::alloc::Global;
 
 pub type Events = ListOf<Event>;
@@ -30,13 +31,12 @@ pub fn decide(
     args: &Payload,
     row: &Row,
 ) -> Result<Decided, NoMemory>
-    requires count { length command.now.guards < 2 ^ 32 }
     requires places { IsTrue (list_all (guard_fits (length row.now)) command.now.guards) }
     ensures value { IfOk result (λ decided. decided ≡ decision command.now args.now row.now) }
 {
-    match first_failing(command.guards.parts(), args, row.parts()) {
+    match first_failing(command.guards(), args, row.parts()) {
         Some(number) => Ok(Decided::Guard(number)),
-        None => Ok(Decided::Events(events_of(alloc, command.events.parts(), args)?)),
+        None => Ok(Decided::Events(events_of(alloc, command.events(), args)?)),
     }
 }
 
@@ -75,7 +75,7 @@ fn events_of(alloc: Global, templates: &[Template], args: &Payload) -> Result<Ev
 pub fn fits_command(command: &Command, args: &Payload) -> bool
     ensures value { result ≡ fits command.now args.now }
 {
-    let (params, fields) = (command.params.parts(), args.parts());
+    let (params, fields) = (command.params(), args.parts());
     params.len() == fields.len() && all_fit(params, fields)
 }
 
@@ -95,13 +95,4 @@ fn is_given(param: &Param, field: &Field) -> bool
     ensures { result ≡ (same_name param.now.name field.now.name && is_kind param.now.kind field.now.value) }
 {
     param.name.same(&field.name) && is_kind(param.kind, &field.value)
-}
-
-pub(crate) fn is_kind(kind: ParamKind, value: &Value) -> bool
-    ensures { result ≡ is_kind kind value.now }
-{
-    match (kind, value) {
-        (ParamKind::Int, Value::Int(_)) | (ParamKind::Text, Value::Text(_)) => true,
-        _ => false,
-    }
 }

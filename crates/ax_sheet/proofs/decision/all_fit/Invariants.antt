@@ -1,5 +1,5 @@
 use Rattle.std.proofs.Common.{◌≡◌, drop}
-use Rattle.ax_sheet.specs.Sheet.{fits_params}
+use Rattle.ax_sheet_parts.specs.Sheet.{fits_params}
 use Rattle.ax_sheet.proofs.decision.all_fit.Given as goal
 
 -- what is left decides

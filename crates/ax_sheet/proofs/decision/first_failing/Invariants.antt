@@ -1,7 +1,7 @@
 use Rattle.std.proofs.Common.{◌≡◌, length, drop, IsTrue}
 use Rattle.std.specs.List.{list_all}
 use Rattle.ax_rules.specs.Guards.{guard_fits}
-use Rattle.ax_sheet.specs.Sheet.{first_failing}
+use Rattle.ax_sheet_parts.specs.Sheet.{first_failing}
 use Rattle.ax_sheet.proofs.decision.first_failing.Given as goal
 
 -- the first that fails among those that are left is that among all

@@ -1,6 +1,6 @@
 use Rattle.std.proofs.Common.{◌≡◌, Some, ap, ◌∙◌}
 use Rattle.ax_sheet.specs.Cards.{cards}
-use Rattle.ax_sheet.specs.Shape.{sheet_in}
+use Rattle.ax_sheet_rules.specs.Shape.{sheet_in}
 use Rattle.ax_sheet.proofs.CardsText.{cards_are_read}
 use Rattle.ax_sheet.proofs.sheet.Sheet.cards.Goals as goal
 

@@ -1,9 +1,0 @@
-use Rattle.std.proofs.Common.{arith}
-use Rattle.std.proofs.lemmas.Grind.{common_steps}
-use Rattle.ax_sheet.specs.Shape.{rule_of}
-use Rattle.ax_sheet.proofs.Loops.{kept}
-use Rattle.ax_sheet.proofs.rules.each_rule.Goals as goal
-
-pub loop-key-preserved : goal.loop-key-preserved
-loop-key-preserved c =
-    kept (rule_of c.args.announcing c.args.fields.now) c.loop-key.rules c.in-Some.key.now c.in-Some.value.now c.in-Some-2.kind c.in-Some-3.rule c.next.new.self c.args.members.now.entries c.loop-key.invariant c.in-Some.ensures.steps (grind (arith, common_steps)) (grind (arith, common_steps)) (grind (arith, common_steps))

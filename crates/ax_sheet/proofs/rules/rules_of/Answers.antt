@@ -1,8 +1,0 @@
-use Rattle.std.proofs.Common.{arith}
-use Rattle.std.proofs.lemmas.Grind.{common_steps}
-use Rattle.serde_json.specs.View.{members_view}
-use Rattle.ax_sheet.proofs.Places.{rules_fit}
-use Rattle.ax_sheet.proofs.rules.rules_of.Goals as goal
-
-pub of-requires : goal.of-requires
-of-requires c = rules_fit c.args.announcing c.in-Some-2.fields (members_view c.in-Some-and_then.members.now.entries) c.in-Some-3.rules (grind (arith, common_steps))

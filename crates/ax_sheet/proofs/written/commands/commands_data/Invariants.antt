@@ -1,8 +1,0 @@
-use Rattle.std.proofs.Common.{◌≡◌, take}
-use Rattle.serde_json.specs.View.{members_view}
-use Rattle.ax_sheet.specs.Text.{command_data, members_data}
-use Rattle.ax_sheet.proofs.written.commands.commands_data.Given as goal
-
--- the members so far
-abbrev pub invariant-loop-named : goal.invariant-loop-named
-invariant-loop-named l = members_view l.map.entries ≡ members_data (λ c. c.name) (λ c. command_data l.fields c.command) (take l.named-index l.commands)

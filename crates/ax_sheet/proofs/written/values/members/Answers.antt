@@ -1,5 +1,0 @@
-use Rattle.serde_json.proofs.Views.{view-Object}
-use Rattle.ax_sheet.proofs.written.values.members.Goals as goal
-
-pub returns : goal.returns
-returns c = view-Object c.args.map
