@@ -5,7 +5,7 @@ use Rattle.std.specs.List.{AllByRecursion, list_all}
 use Rattle.std.proofs.Math.Seq.{take-length}
 use Rattle.std.proofs.lemmas.Bool.Decides.{nat_tests}
 use Rattle.ax_values.specs.Grammar.{Name}
-use Rattle.ax_values.proofs.Options.{both}
+use Rattle.ax_laws.proofs.Tests.{both}
 use Rattle.ax_log.specs.Log.{Stored, events_from, events, stream_in, is_of, aggregates, is_reserved}
 use Rattle.ax_rules.specs.Expr.{Row}
 use Rattle.ax_rules.specs.Rules.{Rules, applied, fold_from, fold_items, lenient_from, lenient, start_row, row_or, and_then}
@@ -15,12 +15,12 @@ use Rattle.ax_tokens.specs.Tokens.{Token, covers, covers_here, half, plain, merg
 use Rattle.ax_projections.specs.Items.{Placed, placed_items, plain_items}
 use Rattle.ax_claims.specs.Rows.{TokenRow}
 use Rattle.ax_state.specs.Setting.{is_projection, projection_at}
-use Rattle.ax_state.specs.State.{State, Shelf, shelf_at, empty_shelf}
+use Rattle.ax_state.specs.State.{State, ProcessorState, processor_state_at, empty_processor}
 use Rattle.ax_state.specs.Positions.{items_at, covered_in, covered_items_in, row_covers, undropped, position_of, row_of, shown_at, has_items, rebuilt_at, is_empty, covers_all, is_at_head}
-use Rattle.ax_state.specs.WellFormed.{IsPlace, IsWellFormed}
+use Rattle.ax_state.specs.WellFormed.{IsProcessorState, IsWellFormed}
 use Rattle.ax_state.proofs.Lists.{AllFrom-get}
 use Rattle.ax_state.proofs.Prefixes.{same-row, filter-items}
-use Rattle.ax_world.proofs.Shelves.{get-at}
+use Rattle.ax_world.proofs.ProcessorStates.{get-at}
 use Rattle.ax_world.proofs.Projections.{projection-within}
 use Rattle.ax_step_work.proofs.Covering.{hash-small, rows-of}
 use Rattle.ax_machine.specs.Promises.{IsFoldOfPrefix, AreRight}
@@ -112,22 +112,22 @@ stream-head test a k (Cell.Event r ∷ cells) f = at (is_of a e) (stream-head te
 -- ---- of a state
 
 module _ (m : State) (p : ℕ) (h : IsWellFormed m) (projection : IsTrue (is_projection m.setting p)) where
-  abbrev shelf : Shelf
-  shelf = shelf_at m p
+  abbrev processor_state : ProcessorState
+  processor_state = processor_state_at m p
 
-  place : IsPlace m.setting m.cells p shelf
+  place : IsProcessorState m.setting m.cells p processor_state
   place =
       let within : p < length m.setting.processors = projection-within m.setting.processors p projection in
-      let declared : length m.shelves ≡ length m.setting.processors = h.declared in
-      AllFrom-get (IsPlace m.setting m.cells) 0 m.shelves p shelf h.places (get-at empty_shelf m.shelves p (omega arith)) p (omega arith)
+      let declared : length m.processor_states ≡ length m.setting.processors = h.declared in
+      AllFrom-get (IsProcessorState m.setting m.cells) 0 m.processor_states p processor_state h.processors (get-at empty_processor m.processor_states p (omega arith)) p (omega arith)
 
   row-ok : (d : Row) (a : Name) → row_of m p a ≡ Ok (row_or d (row_of m p a))
   row-ok d a =
-      ok-or d (row_of m p a) (subst IsOk (sym (same-row (projection_at m.setting p) m.setting.sheet.chain m.cells shelf a place.folded.prefixes)) (place.folded.rows projection a))
+      ok-or d (row_of m p a) (subst IsOk (sym (same-row (projection_at m.setting p) m.setting.sheet.chain m.cells processor_state a place.folded.prefixes)) (place.folded.rows projection a))
 
   is-fold : (a : Name) → IsFoldOfPrefix m p (shown_at m p a)
   is-fold a = record {
-    within = fewer (λ x. covered_in shelf.rows (hash_of a) x.index) (items_at m a);
+    within = fewer (λ x. covered_in processor_state.rows (hash_of a) x.index) (items_at m a);
     row = row-ok (start_row (projection_at m.setting p).fields) a;
   }
 
@@ -140,13 +140,13 @@ module _ (m : State) (p : ℕ) (h : IsWellFormed m) (projection : IsTrue (is_pro
       at true k = (is-fold a, k)
       at false k = k
 
-  head-items : IsTrue (is_at_head m p) → (a : Name) → covered_items_in m.setting.sheet.chain m.cells shelf.rows a ≡ items_at m a
+  head-items : IsTrue (is_at_head m p) → (a : Name) → covered_items_in m.setting.sheet.chain m.cells processor_state.rows a ≡ items_at m a
   head-items head a =
-      filter-items m.setting.sheet.chain (covered_in shelf.rows (hash_of a)) (stream_in a (events m.cells))
+      filter-items m.setting.sheet.chain (covered_in processor_state.rows (hash_of a)) (stream_in a (events m.cells))
       ∙ ap (flat_map (placed_items m.setting.sheet.chain))
-      (stream-head (covered_in shelf.rows (hash_of a)) a 0 m.cells
-      (λ i lt. rows-head (length m.cells) i (omega arith) shelf.rows (hash_of a) (both (list_all (λ c. not (is_reserved c)) m.cells) (list_all (λ r. covers_all (length m.cells) r.token) shelf.rows) head).1
-      ((rows-of shelf.rows place.parts).once (hash_of a) (hash-small a))))
+      (stream-head (covered_in processor_state.rows (hash_of a)) a 0 m.cells
+      (λ i lt. rows-head (length m.cells) i (omega arith) processor_state.rows (hash_of a) (both (list_all (λ c. not (is_reserved c)) m.cells) (list_all (λ r. covers_all (length m.cells) r.token) processor_state.rows) head).1
+      ((rows-of processor_state.rows place.parts).once (hash_of a) (hash-small a))))
 
   head-shown : IsTrue (is_at_head m p) → (a : Name) → shown_at m p a ≡ rebuilt_at (projection_at m.setting p) m.setting.sheet.chain m.cells a
   head-shown head a =

@@ -5,11 +5,11 @@ use Rattle.std.specs.List.{list_all, list_any}
 use Rattle.std.proofs.lemmas.Slice.Eq.{bytes_eq-Decides}
 use Rattle.ax_values.specs.Grammar.{Name}
 use Rattle.ax_values.specs.Words.{same_name, place_where}
-use Rattle.ax_values.proofs.Options.{both, not-true}
+use Rattle.ax_laws.proofs.Lists.{all-at}
+use Rattle.ax_laws.proofs.Tests.{both, not-true}
 use Rattle.ax_log.specs.Log.{option_is}
 use Rattle.ax_segments.specs.Segments.{Segment}
-use Rattle.ax_sheet.specs.Declarations.{same_flag, names_differ}
-use Rattle.ax_sheet.specs.declared.parts.Processor.{Processor}
+use Rattle.ax_sheet.specs.Declarations.{same_flag, names_differ, Processor}
 use Rattle.ax_state.specs.Setting.{Setting, IsSetting, processor_number, is_projection}
 use Rattle.ax_script.specs.Judging.{is_known, has_processor}
 use Rattle.ax_script.specs.Queues.{queue_of, all_of}
@@ -79,11 +79,6 @@ known-rows setting p h k = first-projection setting.processors p h.processors.di
 
 -- ---- in queues
 
-all-one : {A : Type 0} (test : A → Bool) (xs : List A) (n : ℕ) (x : A) → list_all test xs ≡ true → slice_get xs n ≡ Some x → test x ≡ true
-all-one test [] n x h e = absurd (cc)
-all-one test (y ∷ xs) zero x h e = let is : y ≡ x = cc in subst (λ z. test z ≡ true) is (both (test y) (list_all test xs) h).0
-all-one test (y ∷ xs) (suc n) x h e = all-one test xs n x (both (test y) (list_all test xs) h).1 e
-
 all-front : {A : Type 0} (test : A → Bool) (xs ys : List A) → list_all test (xs ++ ys) ≡ true → (list_all test xs ≡ true) × (list_all test ys ≡ true)
 all-front test [] ys h = (refl, h)
 all-front test (x ∷ xs) ys h =
@@ -94,7 +89,7 @@ all-front test (x ∷ xs) ys h =
 -- what holds of all that is queued holds of each
 pub all-queued : {A : Type 0} (test : A → Bool) (queues : List (List A)) (k n : ℕ) (x : A) → list_all test (all_of queues) ≡ true → slice_get (queue_of queues k) n ≡ Some x → test x ≡ true
 all-queued test [] k n x h e = absurd (cc)
-all-queued test (q ∷ queues) zero n x h e = all-one test q n x (all-front test q (all_of queues) h).0 e
+all-queued test (q ∷ queues) zero n x h e = all-at test q n x (all-front test q (all_of queues) h).0 e
 all-queued test (q ∷ queues) (suc k) n x h e = all-queued test queues k n x (all-front test q (all_of queues) h).1 e
 
 -- a queue with something in it is one of them

@@ -1,6 +1,6 @@
 pub mod Known
 pub mod Stays
-pub mod Counts
+pub mod Left
 pub mod Runs
 pub mod AtHead
-pub mod Kept
+pub mod RunsWellFormed

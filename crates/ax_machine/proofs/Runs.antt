@@ -1,20 +1,20 @@
 -- A run, one turn after another.
-use Rattle.std.proofs.Common.{◌≡◌, ℕ, ◌+◌, ◌*◌, ◌<◌, ◌≤◌, ◌^◌, true, List, [], ◌∷◌, ◌++◌, length, map, take, drop, get_or, Option, Some, None, refl, ap, sym, ◌∙◌, subst, append_assoc, arith}
+use Rattle.std.proofs.Common.{◌≡◌, ℕ, ◌+◌, ◌*◌, ◌<◌, ◌≤◌, ◌^◌, true, List, [], ◌∷◌, ◌++◌, length, map, take, drop, get_or, Option, Some, None, IfSome, refl, ap, sym, ◌∙◌, subst, append_assoc, arith}
 use Rattle.std.specs.List.{list_all}
 use Rattle.std.proofs.lemmas.List.{append-nil, length-take-le, length_push, drop_more, take_more}
-use Rattle.ax_values.proofs.Options.{both}
-use Rattle.ax_sheet.specs.Declarations.{is_segment_count}
-use Rattle.ax_sheet.specs.declared.parts.Processor.{Processor}
+use Rattle.ax_laws.proofs.Tests.{both}
+use Rattle.ax_sheet.specs.Declarations.{is_segment_count, Processor}
+use Rattle.ax_state.specs.Setting.{Setting}
 use Rattle.ax_state.specs.State.{State, start, row_count}
 use Rattle.ax_script.specs.Plans.{Plan, IsPlan}
-use Rattle.ax_world.specs.Whole.{Whole, starting, state_of}
+use Rattle.ax_world.specs.WorldTables.{WorldTables, starting, state_of}
 use Rattle.ax_world.proofs.Segments.{few_of_count}
 use Rattle.ax_world.proofs.Starts.{state-starting}
 use Rattle.ax_journal.specs.declared.entry.Entry.{Entry}
 use Rattle.ax_journal.specs.declared.order.Order.{Order}
-use Rattle.ax_machine.specs.Run.{Attempt, attempted, entry_of, entries, state_after_all, attempt_if, next_order, attempts, setting_of, run, last_state, turn, counted, AreBelow}
+use Rattle.ax_machine.specs.Run.{Attempt, attempted, entry_of, entries, state_after_all, attempt_if, next_order, attempts, setting_of, run, last_state, turn, first_left, left_after, IsKnown}
 use Rattle.ax_machine.proofs.Stays.{Stays, stays}
-use Rattle.ax_machine.proofs.Counts.{AreCounts, counts-more, counts-few, turn-next, no-counts}
+use Rattle.ax_machine.proofs.Left.{AreLeft, left-more, turn-next, all-left, known-next, actor-next}
 
 -- ---- attempts in two parts
 
@@ -46,16 +46,16 @@ few-rows (q ∷ qs) h =
 -- ---- turns
 
 -- the journal and the state in front of a turn, of a plan whose schedule is the turns before and those that are left
-pub record IsAt (plan : Plan) (before left : List ℕ) (m : State) (journal : List Entry) (counts : List ℕ) : Type 0 where
+pub record IsAt (plan : Plan) (before left : List ℕ) (m : State) (journal : List Entry) (queues : List (List Order)) : Type 0 where
   pub journal_is : journal ++ entries m (attempts plan.orders before left) ≡ run plan
   pub state_is : state_after_all m (attempts plan.orders before left) ≡ last_state plan
   pub setting_is : m.setting ≡ setting_of plan
   pub fence_is : m.fence ≤ 256 + length before
-  pub counts_are : AreCounts plan.orders before counts
+  pub queues_are : AreLeft plan.orders before queues
 
-pub at-start : (plan : Plan) (w : Whole) (journal : List Entry) (counts : List ℕ) → IsPlan plan → w ≡ starting (setting_of plan) → journal ≡ [] → counts ≡ map (λ queue. 0) plan.orders
-    → IsAt plan [] plan.schedule (state_of w) journal counts
-at-start plan w journal counts h e j c =
+pub at-start : (plan : Plan) (w : WorldTables) (journal : List Entry) (queues : List (List Order)) → IsPlan plan → w ≡ starting (setting_of plan) → journal ≡ [] → queues ≡ plan.orders
+    → IsAt plan [] plan.schedule (state_of w) journal queues
+at-start plan w journal queues h e j c =
     let state : state_of w ≡ start (setting_of plan) = ap state_of e ∙ state-starting (setting_of plan) in
     let few : length plan.processors ≤ 16 = h.processors.few in
     let rows : row_count plan.processors ≤ 16 * length plan.processors = few-rows plan.processors h.processors.counts in
@@ -64,17 +64,17 @@ at-start plan w journal counts h e j c =
       state_is = refl;
       setting_is = refl;
       fence_is = omega (arith, few, rows);
-      counts_are = no-counts plan.orders;
+      queues_are = all-left plan.orders;
     })
 
-pub at-next : (plan : Plan) (before : List ℕ) (a : ℕ) (left : List ℕ) (m n : State) (journal later : List Entry) (counts : List ℕ) → n ≡ state_after_all m (turn plan.orders counts a)
-    → later ≡ journal ++ entries m (turn plan.orders counts a) → IsAt plan before (a ∷ left) m journal counts → IsAt plan (before ++ a ∷ []) left n later (counted counts a)
-at-next plan before a left m n journal later counts e j h = record {
+pub at-next : (plan : Plan) (before : List ℕ) (a : ℕ) (left : List ℕ) (m n : State) (journal later : List Entry) (queues : List (List Order)) → n ≡ state_after_all m (turn queues a)
+    → later ≡ journal ++ entries m (turn queues a) → IsAt plan before (a ∷ left) m journal queues → IsAt plan (before ++ a ∷ []) left n later (left_after queues a)
+at-next plan before a left m n journal later queues e j h = record {
   journal_is = text;
   state_is = rw behind (sym (state-append m now rest) ∙ whole_state);
   setting_is = rw behind kept.setting ∙ h.setting_is;
   fence_is = fence;
-  counts_are = counts-more plan.orders before counts a h.counts_are;
+  queues_are = left-more plan.orders before queues a h.queues_are;
 }
   where
     now : List Attempt
@@ -87,7 +87,7 @@ at-next plan before a left m n journal later counts e j h = record {
     parts = attempt-front a (next_order plan.orders before a) rest
 
     behind : n ≡ state_after_all m now
-    behind = e ∙ ap (state_after_all m) (turn-next plan.orders before counts a h.counts_are)
+    behind = e ∙ ap (state_after_all m) (turn-next plan.orders before queues a h.queues_are)
 
     kept : Stays m (state_after_all m now)
     kept = stays-turn m a (next_order plan.orders before a)
@@ -96,7 +96,7 @@ at-next plan before a left m n journal later counts e j h = record {
     whole_state = ap (state_after_all m) (sym parts) ∙ h.state_is
 
     written : later ≡ journal ++ entries m now
-    written = j ∙ ap (λ (t : List Attempt). journal ++ entries m t) (turn-next plan.orders before counts a h.counts_are)
+    written = j ∙ ap (λ (t : List Attempt). journal ++ entries m t) (turn-next plan.orders before queues a h.queues_are)
 
     text : later ++ entries n rest ≡ run plan
     text =
@@ -111,28 +111,31 @@ at-next plan before a left m n journal later counts e j h = record {
         omega (arith, here, more, h.fence_is)
 
 -- the turn of a place in the schedule
-pub at-turn : (plan : Plan) (items : List ℕ) (i d : ℕ) (m n : State) (journal later : List Entry) (counts after : List ℕ) → items ≡ plan.schedule → i < length items → n ≡ state_after_all m (turn plan.orders counts (get_or items i d))
-    → later ≡ journal ++ entries m (turn plan.orders counts (get_or items i d)) → after ≡ counted counts (get_or items i d) → IsAt plan (take i plan.schedule) (drop i plan.schedule) m journal counts
+pub at-turn : (plan : Plan) (items : List ℕ) (i d : ℕ) (m n : State) (journal later : List Entry) (queues after : List (List Order)) → items ≡ plan.schedule → i < length items → n ≡ state_after_all m (turn queues (get_or items i d))
+    → later ≡ journal ++ entries m (turn queues (get_or items i d)) → after ≡ left_after queues (get_or items i d) → IsAt plan (take i plan.schedule) (drop i plan.schedule) m journal queues
     → IsAt plan (take (i + 1) plan.schedule) (drop (i + 1) plan.schedule) n later after
-at-turn plan items i d m n journal later counts after is lt e j c h =
+at-turn plan items i d m n journal later queues after is lt e j c h =
     let short : i < length plan.schedule = omega (arith, lt, ap length is) in
     let a : ℕ = get_or plan.schedule i d in
-    let left = subst (λ (t : List ℕ). IsAt plan (take i plan.schedule) t m journal counts) (drop_more plan.schedule i d short) h in
-    let state : n ≡ state_after_all m (turn plan.orders counts a) = e ∙ ap (λ (t : List ℕ). state_after_all m (turn plan.orders counts (get_or t i d))) is in
-    let text : later ≡ journal ++ entries m (turn plan.orders counts a) = j ∙ ap (λ (t : List ℕ). journal ++ entries m (turn plan.orders counts (get_or t i d))) is in
-    let next = at-next plan (take i plan.schedule) a (drop (i + 1) plan.schedule) m n journal later counts state text left in
-    let count : after ≡ counted counts a = c ∙ ap (λ (t : List ℕ). counted counts (get_or t i d)) is in
+    let left = subst (λ (t : List ℕ). IsAt plan (take i plan.schedule) t m journal queues) (drop_more plan.schedule i d short) h in
+    let state : n ≡ state_after_all m (turn queues a) = e ∙ ap (λ (t : List ℕ). state_after_all m (turn queues (get_or t i d))) is in
+    let text : later ≡ journal ++ entries m (turn queues a) = j ∙ ap (λ (t : List ℕ). journal ++ entries m (turn queues (get_or t i d))) is in
+    let next = at-next plan (take i plan.schedule) a (drop (i + 1) plan.schedule) m n journal later queues state text left in
+    let count : after ≡ left_after queues a = c ∙ ap (λ (t : List ℕ). left_after queues (get_or t i d)) is in
     subst (λ (t : List ℕ). IsAt plan t (drop (i + 1) plan.schedule) n later after) (sym (take_more plan.schedule i d short))
-    (subst (λ (t : List ℕ). IsAt plan (take i plan.schedule ++ a ∷ []) (drop (i + 1) plan.schedule) n later t) (sym count) next)
+    (subst (λ (t : List (List Order)). IsAt plan (take i plan.schedule ++ a ∷ []) (drop (i + 1) plan.schedule) n later t) (sym count) next)
 
-pub at-end : (plan : Plan) (before : List ℕ) (m : State) (journal : List Entry) (counts : List ℕ) → IsAt plan before [] m journal counts → (journal ≡ run plan) × (m ≡ last_state plan)
-at-end plan before m journal counts h = (sym (append-nil journal) ∙ h.journal_is, h.state_is)
+pub at-end : (plan : Plan) (before : List ℕ) (m : State) (journal : List Entry) (queues : List (List Order)) → IsAt plan before [] m journal queues → (journal ≡ run plan) × (m ≡ last_state plan)
+at-end plan before m journal queues h = (sym (append-nil journal) ∙ h.journal_is, h.state_is)
 
--- the counts stay small
-pub below : (plan : Plan) (i : ℕ) (m : State) (journal : List Entry) (counts : List ℕ) → IsPlan plan → i ≤ length plan.schedule → IsAt plan (take i plan.schedule) (drop i plan.schedule) m journal counts → AreBelow (2 ^ 60) counts
-below plan i m journal counts h lt at k n e =
-    let few = counts-few plan.orders (take i plan.schedule) counts k n at.counts_are e in
-    omega (arith, few, length-take-le i plan.schedule lt, h.schedule.whole, h.orders.steps)
+-- the next order of an actor is known, and the actor is declared
+pub known-turn : (plan : Plan) (before left : List ℕ) (m : State) (journal : List Entry) (queues : List (List Order)) (a : ℕ) → IsPlan plan → IsAt plan before left m journal queues → IfSome (first_left queues a) (IsKnown m.setting)
+known-turn plan before left m journal queues a h at =
+    subst (λ (s : Setting). IfSome (first_left queues a) (IsKnown s)) (sym at.setting_is) (known-next plan before queues a h at.queues_are)
 
-pub fence-below : (plan : Plan) (i : ℕ) (m : State) (journal : List Entry) (counts : List ℕ) → IsPlan plan → i ≤ length plan.schedule → IsAt plan (take i plan.schedule) (drop i plan.schedule) m journal counts → m.fence < 2 ^ 63
-fence-below plan i m journal counts h lt at = omega (arith, at.fence_is, length-take-le i plan.schedule lt, h.schedule.whole, h.orders.steps)
+pub actor-turn : (plan : Plan) (before left : List ℕ) (m : State) (journal : List Entry) (queues : List (List Order)) (a : ℕ) → IsPlan plan → IsAt plan before left m journal queues → IfSome (first_left queues a) (λ order. a < length m.setting.actors)
+actor-turn plan before left m journal queues a h at =
+    subst (λ (s : Setting). IfSome (first_left queues a) (λ (order : Order). a < length s.actors)) (sym at.setting_is) (actor-next plan before queues a h at.queues_are)
+
+pub fence-below : (plan : Plan) (i : ℕ) (m : State) (journal : List Entry) (queues : List (List Order)) → IsPlan plan → i ≤ length plan.schedule → IsAt plan (take i plan.schedule) (drop i plan.schedule) m journal queues → m.fence < 2 ^ 63
+fence-below plan i m journal queues h lt at = omega (arith, at.fence_is, length-take-le i plan.schedule lt, h.schedule.whole, h.orders.steps)

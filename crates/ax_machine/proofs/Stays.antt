@@ -10,9 +10,10 @@ use Rattle.ax_segments.specs.Segments.{Segment}
 use Rattle.ax_claims.specs.Rows.{TokenRow, row_at}
 use Rattle.ax_claims.specs.Changes.{is_claimed}
 use Rattle.ax_sheet.specs.Sheet.{command_named}
+use Rattle.ax_sheet.specs.Commands.{Command}
 use Rattle.ax_sheet.specs.Decision.{decision}
 use Rattle.ax_state.specs.Setting.{processor_number, projection_at}
-use Rattle.ax_state.specs.State.{State, Reservation, Batch, desk_at, shelf_at, actor_name, with_cells}
+use Rattle.ax_state.specs.State.{State, Reservation, Batch, desk_at, processor_state_at, actor_name, with_cells}
 use Rattle.ax_state.specs.Positions.{aggregate_state}
 use Rattle.ax_state.specs.Holding.{checked, held_check, held_fence}
 use Rattle.ax_state.specs.Answer.{Answer, answer}
@@ -20,7 +21,6 @@ use Rattle.ax_step_log.specs.Logging.{sent_by, sent_decided, appended, appended_
 use Rattle.ax_step_claims.specs.Claiming.{claimed, claimed_reply, granted}
 use Rattle.ax_step_work.specs.Working.{Failure, fetch_at, commit_batch, commit_over, committed, fetched, batch_of, first_failure, present_row, batch_items, with_batch}
 use Rattle.ax_values.specs.declared.cell.Cell.{Cell}
-use Rattle.ax_sheet.specs.declared.parts.Command.{Command}
 use Rattle.ax_sheet.specs.declared.decision.Decided.{Decided}
 use Rattle.ax_journal.specs.declared.order.Order.{Order}
 use Rattle.ax_journal.specs.declared.reply.Reply.{Reply}
@@ -85,7 +85,7 @@ stays-checked m None (Some r) later h = h r
 
 stays-fetch : (m : State) (k p : ℕ) (s : Segment) (most : ℕ) → Stays m (fetch_at m k p s most).state
 stays-fetch m k p s most =
-    stays-checked m (held_check (held_fence p s (desk_at m k).held) (row_at s (shelf_at m p).rows)) (row_at s (shelf_at m p).rows) (λ r. fetched m k (batch_of m p s most r))
+    stays-checked m (held_check (held_fence p s (desk_at m k).held) (row_at s (processor_state_at m p).rows)) (row_at s (processor_state_at m p).rows) (λ r. fetched m k (batch_of m p s most r))
     (λ r. record { setting = refl; fence = at-most m.fence })
 
 stays-committed : (m : State) (k : ℕ) (b : Batch) (r : TokenRow) (o : Option Failure) → Stays m (committed m k b r o).state
@@ -100,14 +100,14 @@ stays-over m k b (Some r) =
 
 stays-batch : (m : State) (k : ℕ) (o : Option Batch) → Stays m (commit_batch m k o).state
 stays-batch m k None = same m
-stays-batch m k (Some b) = stays-over m k b (row_at b.segment (shelf_at m b.processor).rows)
+stays-batch m k (Some b) = stays-over m k b (row_at b.segment (processor_state_at m b.processor).rows)
 
 -- ---- all
 
 pub stays : (m : State) (k : ℕ) (o : Order) → Stays m (step m k o).state
 stays m k (Order.Send a c args) = stays-sent m k a args (command_named m.setting.sheet c)
 stays m k Order.Append = stays-appended m k (desk_at m k).reservation
-stays m k (Order.Claim p s) = stays-claimed m k (processor_number m.setting.processors p) s (row_at s (shelf_at m (processor_number m.setting.processors p)).rows)
+stays m k (Order.Claim p s) = stays-claimed m k (processor_number m.setting.processors p) s (row_at s (processor_state_at m (processor_number m.setting.processors p)).rows)
 stays m k (Order.Fetch p s most) = stays-fetch m k (processor_number m.setting.processors p) s most
 stays m k Order.Commit = stays-batch m k (desk_at m k).batch
 stays m k (Order.ShowRows p) = same m

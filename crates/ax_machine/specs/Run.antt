@@ -1,5 +1,5 @@
 -- One order is one step; a run of a plan performs each actor's orders along the schedule.
-use Rattle.std.specs.Prelude.{◌≡◌, ℕ, ◌+◌, ◌≤◌, List, [], ◌∷◌, ◌++◌, Option, Some, None, IsTrue, slice_get, slice_set}
+use Rattle.std.specs.Prelude.{ℕ, List, [], ◌∷◌, ◌++◌, Option, Some, None, IsTrue, slice_get, slice_set}
 use Rattle.ax_journal.specs.declared.entry.Entry.{Entry}
 use Rattle.ax_journal.specs.declared.order.Order.{Order}
 use Rattle.ax_journal.specs.declared.reply.Reply.{Reply}
@@ -87,22 +87,28 @@ last_state plan = state_after_all (start (setting_of plan)) (attempts_of plan)
 
 -- ---- turns
 
--- how often each actor stood in the schedule, with one more of an actor that is declared
-abbrev pub counted_by : List ℕ → ℕ → Option ℕ → List ℕ
-counted_by counts actor None = counts
-counted_by counts actor (Some n) = slice_set counts actor (n + 1)
+-- the first of a list
+abbrev pub first_of : {A : Type 0} → List A → Option A
+first_of [] = None
+first_of (x ∷ xs) = Some x
 
-abbrev pub counted : List ℕ → ℕ → List ℕ
-counted counts actor = counted_by counts actor (slice_get counts actor)
+-- the list without its first
+abbrev pub rest_of : {A : Type 0} → List A → List A
+rest_of [] = []
+rest_of (x ∷ xs) = xs
 
-abbrev pub order_by : List (List Order) → ℕ → Option ℕ → Option Order
-order_by queues actor None = None
-order_by queues actor (Some n) = slice_get (queue_of queues actor) n
+-- the order that an actor performs next, of the orders that each actor has left
+abbrev pub first_left : List (List Order) → ℕ → Option Order
+first_left queues actor = first_of (queue_of queues actor)
+
+abbrev pub left_by : List (List Order) → ℕ → Option (List Order) → List (List Order)
+left_by queues actor None = queues
+left_by queues actor (Some queue) = slice_set queues actor (rest_of queue)
+
+-- what is left after an actor's next order
+abbrev pub left_after : List (List Order) → ℕ → List (List Order)
+left_after queues actor = left_by queues actor (slice_get queues actor)
 
 -- the attempt of a turn, where the actor has an order left
-abbrev pub turn : List (List Order) → List ℕ → ℕ → List Attempt
-turn queues counts actor = attempt_if actor (order_by queues actor (slice_get counts actor)) []
-
--- numbers of at most so much
-abbrev pub AreBelow : ℕ → List ℕ → Type 0
-AreBelow limit counts = (k n : ℕ) → slice_get counts k ≡ Some n → n ≤ limit
+abbrev pub turn : List (List Order) → ℕ → List Attempt
+turn queues actor = attempt_if actor (first_left queues actor) []

@@ -7,3 +7,4 @@ mod turns;
 
 pub use machine::{Machine, run};
 pub use steps::step;
+pub use turns::Turn;

@@ -1,7 +1,7 @@
 ghost use Rattle.std.specs.Prelude.{◌^◌, ◌<◌, length, IfOk};
 ghost use Rattle.ax_journal.specs.declared.reply.Reply.TheVariants.{Done};
 ghost use Rattle.ax_state.specs.Answer.{answer};
-ghost use Rattle.ax_world.specs.Whole.{state_of};
+ghost use Rattle.ax_world.specs.WorldTables.{state_of};
 ghost use Rattle.ax_world.specs.Moves.{IsMove};
 ghost use Rattle.ax_machine.specs.Run.{IsKnown, step};
 
@@ -14,12 +14,12 @@ use std::alloc::Global;
 /// The world itself stays: the edits of the answer are for `World::prepare` and `World::install`. Want of memory is the
 /// only error.
 pub fn step(alloc: Global, world: &World, actor: u32, order: &Order) -> Result<Move, NoMemory>
-    requires known { IsKnown world.now.whole.setting order.now }
-    requires actor { actor < length world.now.whole.setting.actors }
-    requires fence { world.now.whole.fence < 2 ^ 63 }
-    ensures { IfOk result (IsMove world.now.whole (step (state_of world.now.whole) actor order.now)) }
+    requires known { IsKnown world.now.tables.setting order.now }
+    requires actor { actor < length world.now.tables.setting.actors }
+    requires fence { world.now.tables.fence < 2 ^ 63 }
+    ensures { IfOk result (IsMove world.now.tables (step (state_of world.now.tables) actor order.now)) }
 {
-    let _ = world.clock();
+    world.facts();
     match order {
         Order::Send { .. } => ax_step_log::step(alloc, world, actor, order),
         Order::Append => ax_step_log::step(alloc, world, actor, order),
@@ -33,8 +33,8 @@ pub fn step(alloc: Global, world: &World, actor: u32, order: &Order) -> Result<M
 
 /// Changes nothing.
 fn nothing(alloc: Global, world: &World) -> Move
-    ensures { IsMove world.now.whole (answer (state_of world.now.whole) Done) result }
+    ensures { IsMove world.now.tables (answer (state_of world.now.tables) Done) result }
 {
-    let _ = world.clock();
+    world.facts();
     Move::without_edits(alloc, Reply::Done)
 }

@@ -11,7 +11,7 @@ use Rattle.std.specs.declared.cmp.Ordering.{Ordering}
 use Rattle.std.specs.declared.cmp.Ordering.TheVariants.{Less, Equal, Greater}
 use Rattle.ax_values.specs.Grammar.{Name}
 use Rattle.ax_values.specs.Words.{same_name, name_cmp, rises, insert_rising}
-use Rattle.ax_values.proofs.Options.{both}
+use Rattle.ax_laws.proofs.Tests.{both, and-right, or-front, is-less}
 use Rattle.ax_log.specs.Log.{Stored, aggregates_of, stream_in, is_of}
 use Rattle.ax_projections.specs.Table.{Entry, look_up}
 use Rattle.ax_projections.proofs.NameLaws.{name-is, name-refl, name-sym}
@@ -64,11 +64,6 @@ times-distinct a (x ∷ xs) h = at (same_name a x) refl (times-distinct a xs h.1
 abbrev pub Rises : List Name → Type 0
 Rises xs = rises (λ x y. is_lt (name_cmp x y)) xs ≡ true
 
-is_less : (o : Ordering) → is_lt o ≡ true → o ≡ Less
-is_less Less h = refl
-is_less Equal h = absurd (cc)
-is_less Greater h = absurd (cc)
-
 -- what is sorted and has no name twice rises
 sorted-rises : (xs : List Name) → IsSorted name_cmp xs → ((a : Name) → times a xs ≤ 1) → Rises xs
 sorted-rises [] s h = refl
@@ -95,7 +90,7 @@ above x z [] h m = absurd (cc)
 above x z (y ∷ ys) h m = at (same_name z y) refl m (above y z ys (both (is_lt (name_cmp x y)) (rises (λ x y. is_lt (name_cmp x y)) (y ∷ ys)) h).1)
   where
     first : name_cmp x y ≡ Less
-    first = is_less (name_cmp x y) (both (is_lt (name_cmp x y)) (rises (λ x y. is_lt (name_cmp x y)) (y ∷ ys)) h).0
+    first = is-less (name_cmp x y) (both (is_lt (name_cmp x y)) (rises (λ x y. is_lt (name_cmp x y)) (y ∷ ys)) h).0
 
     at : (b : Bool) → same_name z y ≡ b → (b || among z ys) ≡ true → (among z ys ≡ true → name_cmp y z ≡ Less) → name_cmp x z ≡ Less
     at true e m ih = subst (λ n. name_cmp x n ≡ Less) (sym (name-is z y e)) first
@@ -150,11 +145,6 @@ or-same : (b c : Bool) → (b || c) ≡ (b || (b || c))
 or-same true c = refl
 or-same false c = refl
 
-or-swap : (a b c : Bool) → (a || (b || c)) ≡ (b || (a || c))
-or-swap true true c = refl
-or-swap true false c = refl
-or-swap false b c = refl
-
 among-filter : (t : Name → Bool) (a : Name) (xs : List Name) → among a (filter t xs) ≡ (t a && among a xs)
 among-filter t a [] = at (t a)
   where
@@ -168,10 +158,6 @@ among-filter t a (x ∷ xs) = at (t x) refl (same_name a x) refl (among-filter t
     at true e false k ih = ap (λ b. b || among a (filter t xs)) k ∙ ih
     at false e true k ih = ih ∙ ap (λ b. b && among a xs) (ap t (name-is a x k) ∙ e) ∙ sym (ap (λ b. b && true) (ap t (name-is a x k) ∙ e))
     at false e false k ih = ih
-
-and-right : (a b : Bool) → (a && b) ≡ true → b ≡ true
-and-right true b h = h
-and-right false b h = absurd (cc)
 
 rises-filter : (t : Name → Bool) (xs : List Name) → Rises xs → Rises (filter t xs)
 rises-filter t [] h = refl
@@ -191,7 +177,7 @@ among-insert z x (y ∷ ys) = at (name_cmp x y) refl (among-insert z x ys)
         → among z (match_ordering o (x ∷ y ∷ ys) (y ∷ ys) (y ∷ insert_rising name_cmp x ys)) ≡ (same_name z x || (same_name z y || among z ys))
     at Less e ih = refl
     at Equal e ih = let is : x ≡ y = name-is x y (sym (is_eq-slice_cmp x y) ∙ ap is_eq e) in or-same (same_name z y) (among z ys) ∙ ap (λ n. same_name z n || (same_name z y || among z ys)) (sym is)
-    at Greater e ih = ap (λ b. same_name z y || b) ih ∙ or-swap (same_name z y) (same_name z x) (among z ys)
+    at Greater e ih = ap (λ b. same_name z y || b) ih ∙ or-front (same_name z y) (same_name z x) (among z ys)
 
 rises-insert : (x : Name) (ys : List Name) → Rises ys → Rises (insert_rising name_cmp x ys)
 rises-insert x [] h = refl

@@ -14,24 +14,24 @@ use Rattle.ax_projections.proofs.NameLaws.{name-sym, any-firsts, found, missing}
 use Rattle.ax_projections.proofs.RebuildLaws.{own, is_own, items-own}
 use Rattle.ax_state.specs.Every.{option_or}
 use Rattle.ax_state.specs.Setting.{is_projection, processor_at, projection_at, no_processor}
-use Rattle.ax_state.specs.State.{State, Shelf, empty_shelf, shelf_at}
+use Rattle.ax_state.specs.State.{State, ProcessorState, empty_processor, processor_state_at}
 use Rattle.ax_state.specs.Positions.{rows_of, shown_at, rebuilt_at, rebuilt_rows, position_in, covered_in}
 use Rattle.ax_state.specs.Portions.{portions, covered_events}
-use Rattle.ax_state.specs.WellFormed.{IsPlace, CoverPrefix}
+use Rattle.ax_state.specs.WellFormed.{IsProcessorState, CoverPrefix}
 use Rattle.ax_state.specs.Answer.{reported}
 use Rattle.ax_state.proofs.Lists.{AllFrom-get}
 use Rattle.ax_state.proofs.Prefixes.{same-position, same-row}
-use Rattle.ax_world.specs.Whole.{Whole, empty_place, state_of, place_at}
+use Rattle.ax_world.specs.WorldTables.{WorldTables, no_tables, state_of, processor_tables_at}
 use Rattle.ax_world.specs.Fits.{IsWorld, IsTable, folded_row, row_if}
 use Rattle.ax_world.specs.Moves.{IsMove}
 use Rattle.ax_world.proofs.Projections.{projection-within}
-use Rattle.ax_world.proofs.Shelves.{get-at, shelf-place, place-declared}
+use Rattle.ax_world.proofs.ProcessorStates.{get-at, processor_state-place, place-declared}
 use Rattle.ax_world.specs.declared.edit.Move.{Move}
 use Rattle.ax_report.specs.Reports.{listed, line_of, row_line, processor_line, rows_report, rebuilt_lines, rebuild_from, unless_saga, AreNames, AddsRows}
 use Rattle.ax_report.proofs.Listed.{row_shown, in-order}
 use Rattle.ax_values.specs.declared.cell.Cell.{Cell}
 use Rattle.ax_upcast.specs.declared.upcaster.Upcaster.{Upcaster}
-use Rattle.ax_sheet.specs.declared.parts.Processor.{Processor}
+use Rattle.ax_sheet.specs.Declarations.{Processor}
 use Rattle.ax_journal.specs.declared.reply.Reply.{Reply}
 
 -- ---- a processor of a projection
@@ -126,30 +126,30 @@ filter-none : {A B : Type 0} (t : B → Bool) (f : A → List B) (xs : List A) �
 filter-none t f [] h = absurd (cc)
 filter-none t f (x ∷ xs) h = omega arith
 
-module _ (w : Whole) (p : ℕ) (h : IsWorld w) (lt : p < length w.setting.processors) where
-  there : slice_get (state_of w).shelves p ≡ Some (shelf_at (state_of w) p)
-  there = get-at empty_shelf (state_of w).shelves p (let d : length (state_of w).shelves ≡ length w.setting.processors = h.state.declared in omega arith)
+module _ (w : WorldTables) (p : ℕ) (h : IsWorld w) (lt : p < length w.setting.processors) where
+  there : slice_get (state_of w).processor_states p ≡ Some (processor_state_at (state_of w) p)
+  there = get-at empty_processor (state_of w).processor_states p (let d : length (state_of w).processor_states ≡ length w.setting.processors = h.state.declared in omega arith)
 
-  prefixes : CoverPrefix (events w.cells) (portions (shelf_at (state_of w) p).rows)
-  prefixes = (AllFrom-get (IsPlace w.setting w.cells) 0 (state_of w).shelves p (shelf_at (state_of w) p) h.state.places there p (omega arith)).folded.prefixes
+  prefixes : CoverPrefix (events w.cells) (portions (processor_state_at (state_of w) p).rows)
+  prefixes = (AllFrom-get (IsProcessorState w.setting w.cells) 0 (state_of w).processor_states p (processor_state_at (state_of w) p) h.state.processors there p (omega arith)).folded.prefixes
 
-  kept : (a : Name) → look_up a (place_at w p).table ≡ folded_row w.setting p (covered_events (portions (place_at w p).shelf.rows) (events w.cells)) (place_at w p).shelf a
-  kept = AllFrom-get (IsTable w.setting (events w.cells)) 0 w.places p (place_at w p) h.tables (get-at empty_place w.places p (place-declared w p h lt)) p (omega arith)
+  kept : (a : Name) → look_up a (processor_tables_at w p).table ≡ folded_row w.setting p (covered_events (portions (processor_tables_at w p).processor_state.rows) (events w.cells)) (processor_tables_at w p).processor_state a
+  kept = AllFrom-get (IsTable w.setting (events w.cells)) 0 w.processor_tables p (processor_tables_at w p) h.tables (get-at no_tables w.processor_tables p (place-declared w p h lt)) p (omega arith)
 
-  shown-look_up : (a : Name) → look_up a (place_at w p).table ≡ row_shown (shown_at (state_of w) p a)
+  shown-look_up : (a : Name) → look_up a (processor_tables_at w p).table ≡ row_shown (shown_at (state_of w) p a)
   shown-look_up a =
       kept a
-      ∙ ap (λ (x : Shelf). folded_row w.setting p (covered_events (portions x.rows) (events w.cells)) x a) (sym (shelf-place w p))
-      ∙ ap (λ n. row_if w.setting p (covered_events (portions (shelf_at (state_of w) p).rows) (events w.cells)) (shelf_at (state_of w) p) a n) (sym (same-position w.setting.sheet.chain w.cells (shelf_at (state_of w) p) a))
-      ∙ ap (λ r. if nat_lt 0 (position_in w.setting.sheet.chain w.cells (shelf_at (state_of w) p) a) then Some (record { position = position_in w.setting.sheet.chain w.cells (shelf_at (state_of w) p) a; row = row_or (start_row (projection_at w.setting p).fields) r }) else None)
-      (sym (same-row (projection_at w.setting p) w.setting.sheet.chain w.cells (shelf_at (state_of w) p) a prefixes))
+      ∙ ap (λ (x : ProcessorState). folded_row w.setting p (covered_events (portions x.rows) (events w.cells)) x a) (sym (processor_state-place w p))
+      ∙ ap (λ n. row_if w.setting p (covered_events (portions (processor_state_at (state_of w) p).rows) (events w.cells)) (processor_state_at (state_of w) p) a n) (sym (same-position w.setting.sheet.chain w.cells (processor_state_at (state_of w) p) a))
+      ∙ ap (λ r. if nat_lt 0 (position_in w.setting.sheet.chain w.cells (processor_state_at (state_of w) p) a) then Some (record { position = position_in w.setting.sheet.chain w.cells (processor_state_at (state_of w) p) a; row = row_or (start_row (projection_at w.setting p).fields) r }) else None)
+      (sym (same-row (projection_at w.setting p) w.setting.sheet.chain w.cells (processor_state_at (state_of w) p) a prefixes))
 
-  shown-listed : (names : List Name) → AreNames (place_at w p).table names → listed (place_at w p).table names ≡ rows_of (state_of w) p
+  shown-listed : (names : List Name) → AreNames (processor_tables_at w p).table names → listed (processor_tables_at w p).table names ≡ rows_of (state_of w) p
   shown-listed names n =
-      in-order (shown_at (state_of w) p) (place_at w p).table names (events w.cells) n shown-look_up (λ a. refl)
-      (λ a k. filter-none (λ x. covered_in (shelf_at (state_of w) p).rows _ x.index) (placed_items w.setting.sheet.chain) (stream_in a (events w.cells)) k)
+      in-order (shown_at (state_of w) p) (processor_tables_at w p).table names (events w.cells) n shown-look_up (λ a. refl)
+      (λ a k. filter-none (λ x. covered_in (processor_state_at (state_of w) p).rows _ x.index) (placed_items w.setting.sheet.chain) (stream_in a (events w.cells)) k)
 
-pub shown-move : (w : Whole) (p : ℕ) (rules : Rules) (table : List Entry) (lines : List Line) (move : Move) → IsWorld w → IsTrue (is_projection w.setting p) → rules ≡ projection_at w.setting p → table ≡ (place_at w p).table
+pub shown-move : (w : WorldTables) (p : ℕ) (rules : Rules) (table : List Entry) (lines : List Line) (move : Move) → IsWorld w → IsTrue (is_projection w.setting p) → rules ≡ projection_at w.setting p → table ≡ (processor_tables_at w p).table
     → AddsRows rules.fields table [] lines → move ≡ record { edits = []; reply = Reply.Lines (length lines); report = lines } → IsMove w (reported (state_of w) (rows_report (state_of w) p)) move
 shown-move w p rules table lines move h k r t added is =
     subst (IsMove w (reported (state_of w) (rows_report (state_of w) p))) (sym is) (record {

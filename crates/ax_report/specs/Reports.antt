@@ -17,7 +17,7 @@ use Rattle.ax_rules.specs.declared.rules.Initial.{Initial}
 use Rattle.ax_projections.specs.declared.table.Positioned.{Positioned}
 use Rattle.ax_journal.specs.declared.order.Order.{Order}
 use Rattle.ax_journal.specs.declared.reply.Reply.{Reply}
-use Rattle.ax_sheet.specs.declared.parts.Processor.{Processor}
+use Rattle.ax_sheet.specs.Declarations.{Processor}
 
 -- ---- lines
 

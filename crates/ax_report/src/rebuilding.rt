@@ -1,45 +1,31 @@
-ghost use Rattle.std.specs.Prelude.{◌≡◌, ◌<◌, ◌++◌, length, take, IfOk, OnOk, OnErr};
-ghost use Rattle.ax_journal.specs.Entries.{ended};
+ghost use Rattle.std.specs.Prelude.{◌≡◌, ◌<◌, ◌++◌, length, IfOk, OnOk, OnErr};
 ghost use Rattle.ax_state.specs.Setting.{processor_at};
-ghost use Rattle.ax_world.specs.Whole.{state_of};
+ghost use Rattle.ax_world.specs.WorldTables.{state_of};
 ghost use Rattle.ax_report.specs.Reports.{rebuilt_lines, rebuild_lines, rebuild_text, unless_saga};
 
 use crate::line::processor_line;
 use crate::rows::add_rows;
-use ax_journal::Lines;
+use ax_journal::{Lines, write_lines};
 use ax_projections::rebuild;
-use ax_values::{Line, NoMemory, whole_or_none};
+use ax_values::NoMemory;
 use ax_world::World;
 use std::alloc::Global;
 
 /// Adds the text of a rebuild: for each projection processor, in the order of the head, a line of its name, and the rows
 /// that its rules make of the log alone. Where memory is wanting, nothing is added.
 pub fn rebuild_text(alloc: Global, world: &World, out: &mut Vec<u8>) -> Result<(), NoMemory>
-    ensures ok { OnOk result (out.new.items ≡ out.old.items ++ rebuild_text (state_of world.now.whole)) }
+    ensures ok { OnOk result (out.new.items ≡ out.old.items ++ rebuild_text (state_of world.now.tables)) }
     ensures err { OnErr result (out.new.items ≡ out.old.items) }
 {
     let lines = rebuild_lines(alloc, world)?;
-    let start = out.len();
-    let written = write_lines(lines.parts(), out);
-    whole_or_none(out, start, written)
-}
-
-fn write_lines(lines: &[Line], out: &mut Vec<u8>) -> Result<(), NoMemory>
-    ensures ok { OnOk result (out.new.items ≡ out.old.items ++ ended lines.now) }
-    ensures front { OnErr result (take (length out.old.items) out.new.items ≡ out.old.items) }
-{
-    for line in lines {
-        out.extend_from_slice(line.parts())?;
-        out.push(b'\n')?;
-    }
-    Ok(())
+    write_lines(lines.parts(), out)
 }
 
 fn rebuild_lines(alloc: Global, world: &World) -> Result<Lines, NoMemory>
-    ensures { IfOk result (λ lines. lines ≡ rebuild_lines (state_of world.now.whole)) }
+    ensures { IfOk result (λ lines. lines ≡ rebuild_lines (state_of world.now.tables)) }
 {
     let mut lines = Lines::new(alloc);
-    let _ = world.clock();
+    world.facts();
     for number in 0..world.processors().parts().len() {
         add_rebuilt(alloc, world, number as u32, &mut lines)?;
     }
@@ -53,8 +39,8 @@ fn add_rebuilt(
     processor: u32,
     lines: &mut Lines,
 ) -> Result<(), NoMemory>
-    requires { processor < length world.now.whole.setting.processors }
-    ensures { OnOk result (lines.new ≡ lines.old ++ unless_saga (processor_at world.now.whole.setting processor).saga (rebuilt_lines (state_of world.now.whole) processor (processor_at world.now.whole.setting processor))) }
+    requires { processor < length world.now.tables.setting.processors }
+    ensures { OnOk result (lines.new ≡ lines.old ++ unless_saga (processor_at world.now.tables.setting processor).saga (rebuilt_lines (state_of world.now.tables) processor (processor_at world.now.tables.setting processor))) }
 {
     let declared = &world.processors().parts()[processor as usize];
     if declared.saga {

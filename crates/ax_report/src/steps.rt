@@ -1,7 +1,7 @@
 ghost use Rattle.std.specs.Prelude.{◌≡◌, ◌<◌, length, IsTrue, IfOk};
 ghost use Rattle.ax_state.specs.Setting.{is_projection};
 ghost use Rattle.ax_state.specs.Answer.{reported};
-ghost use Rattle.ax_world.specs.Whole.{state_of};
+ghost use Rattle.ax_world.specs.WorldTables.{state_of};
 ghost use Rattle.ax_world.specs.Moves.{IsMove};
 ghost use Rattle.ax_report.specs.Reports.{IsReport, IsDeclared, rows_report, step};
 
@@ -15,9 +15,9 @@ use std::alloc::Global;
 /// has handled an item. It changes nothing.
 pub fn step(alloc: Global, world: &World, actor: u32, order: &Order) -> Result<Move, NoMemory>
     requires kind { IsReport order.now }
-    requires processor { IsDeclared world.now.whole.setting order.now }
-    requires actor { actor < length world.now.whole.setting.actors }
-    ensures { IfOk result (IsMove world.now.whole (step (state_of world.now.whole) actor order.now)) }
+    requires processor { IsDeclared world.now.tables.setting order.now }
+    requires actor { actor < length world.now.tables.setting.actors }
+    ensures { IfOk result (IsMove world.now.tables (step (state_of world.now.tables) actor order.now)) }
 {
     let _ = actor;
     match order {
@@ -26,7 +26,7 @@ pub fn step(alloc: Global, world: &World, actor: u32, order: &Order) -> Result<M
             show_rows(alloc, world, processor)
         }
         _ => {
-            let _ = world.clock();
+            world.facts();
             Ok(Move::without_edits(alloc, Reply::Done))
         }
     }
@@ -34,10 +34,10 @@ pub fn step(alloc: Global, world: &World, actor: u32, order: &Order) -> Result<M
 
 /// The report of a processor's rows.
 fn show_rows(alloc: Global, world: &World, processor: u32) -> Result<Move, NoMemory>
-    requires { IsTrue (is_projection world.now.whole.setting processor) }
-    ensures { IfOk result (IsMove world.now.whole (reported (state_of world.now.whole) (rows_report (state_of world.now.whole) processor))) }
+    requires { IsTrue (is_projection world.now.tables.setting processor) }
+    ensures { IfOk result (IsMove world.now.tables (reported (state_of world.now.tables) (rows_report (state_of world.now.tables) processor))) }
 {
-    let _ = world.clock();
+    world.facts();
     let rules = world.projection(processor);
     let mut report = Lines::new(alloc);
     add_rows(alloc, rules.fields(), world.table(processor), &mut report)?;

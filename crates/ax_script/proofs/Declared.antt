@@ -5,17 +5,12 @@ use Rattle.std.proofs.lemmas.Bool.Decides.{nat_tests}
 use Rattle.std.proofs.lemmas.List.Folds.{list_any-append}
 use Rattle.ax_values.specs.Grammar.{Name}
 use Rattle.ax_values.specs.Words.{same_name, place_where}
-use Rattle.ax_values.proofs.Options.{both, and-true, not-true}
+use Rattle.ax_laws.proofs.Tests.{both, and-true, not-true}
 use Rattle.ax_sheet.specs.Declarations.{names_differ}
 
 pub no-either : (a b : Bool) → (a || b) ≡ false → (a ≡ false) × (b ≡ false)
 no-either true b h = cc
 no-either false b h = (refl, h)
-
-pub all-one : {A : Type 0} (test : A → Bool) (xs : List A) (x : A) → list_all test xs ≡ true → test x ≡ true → list_all test (xs ++ x ∷ []) ≡ true
-all-one test [] x h k = and-true (test x) true k refl
-all-one test (y ∷ xs) x h k =
-    let p = both (test y) (list_all test xs) h in and-true (test y) (list_all test (xs ++ x ∷ [])) p.0 (all-one test xs x p.1 k)
 
 -- a name that is not among them
 pub differ-one : (names : List Name) (a : Name) → names_differ names ≡ true → list_any (λ b. same_name b a) names ≡ false → names_differ (names ++ a ∷ []) ≡ true

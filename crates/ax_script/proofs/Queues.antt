@@ -3,17 +3,13 @@ use Rattle.std.proofs.Common.{◌≡◌, ℕ, zero, suc, ◌+◌, ◌<◌, ◌==
 use Rattle.std.specs.List.{list_all, count_by}
 use Rattle.std.proofs.lemmas.Bool.Decides.{nat_tests}
 use Rattle.std.proofs.lemmas.List.Sums.{sum_by-cons, sum_by-append}
-use Rattle.ax_values.proofs.Options.{both, and-true}
+use Rattle.ax_laws.proofs.Tests.{both, and-true}
 use Rattle.ax_script.specs.Queues.{queue_of, all_of, times_of, schedule_fits}
+use Rattle.ax_laws.proofs.Lists.{all-append}
 
 -- the queues, with more at the end of one
 abbrev pub added : {A : Type 0} → List (List A) → ℕ → List A → List (List A)
 added queues k more = set queues k (queue_of queues k ++ more)
-
-all-append : {A : Type 0} (test : A → Bool) (xs ys : List A) → list_all test xs ≡ true → list_all test ys ≡ true → list_all test (xs ++ ys) ≡ true
-all-append test [] ys h k = k
-all-append test (x ∷ xs) ys h k =
-    let p = both (test x) (list_all test xs) h in and-true (test x) (list_all test (xs ++ ys)) p.0 (all-append test xs ys p.1 k)
 
 all-parts : {A : Type 0} (test : A → Bool) (xs ys : List A) → list_all test (xs ++ ys) ≡ true → (list_all test xs ≡ true) × (list_all test ys ≡ true)
 all-parts test [] ys h = (refl, h)

@@ -6,10 +6,9 @@ use Rattle.std.proofs.lemmas.List.{map-append, length-replicate}
 use Rattle.std.proofs.lemmas.List.Sums.{sum_by-append}
 use Rattle.std.specs.Prelude.{cond, slice_get}
 use Rattle.ax_values.specs.Grammar.{Name}
-use Rattle.ax_values.proofs.Options.{both, and-true, not-true}
+use Rattle.ax_laws.proofs.Tests.{both, and-true, not-true, not-false}
 use Rattle.ax_sheet.specs.Sheet.{Sheet}
-use Rattle.ax_sheet.specs.Declarations.{most_processors, most_actors, names_differ, is_segment_count, is_actor_name}
-use Rattle.ax_sheet.specs.declared.parts.Processor.{Processor}
+use Rattle.ax_sheet.specs.Declarations.{most_processors, most_actors, names_differ, is_segment_count, is_actor_name, Processor}
 use Rattle.ax_journal.specs.declared.form.Form.{Form}
 use Rattle.ax_journal.specs.declared.order.Order.{Order}
 use Rattle.ax_journal.specs.Orders.{is_stop, stops_last}
@@ -44,7 +43,8 @@ use Rattle.ax_script.specs.Reading.{with_line, with_steps}
 use Rattle.ax_script.specs.Formed.{IsFormed}
 use Rattle.ax_script.specs.Stands.{is_early, is_idle, Stands, HasActor}
 use Rattle.ax_script.proofs.Queues.{added, sum-added, all-added, each-added, length-added, all_of-empty, fits-added, fits-whole, fits-empty}
-use Rattle.ax_script.proofs.Declared.{no-either, all-one, differ-one, any-map, place-within, places-within}
+use Rattle.ax_script.proofs.Declared.{no-either, differ-one, any-map, place-within, places-within}
+use Rattle.ax_laws.proofs.Lists.{all-more}
 
 -- ---- no fault
 
@@ -84,10 +84,6 @@ clear built r l h =
       stopped = not-true (is_after_stop r l) f.0;
       schedule = not-true (is_wrong_schedule r l) g.0;
     }
-
-not-false : (b : Bool) → not b ≡ false → b ≡ true
-not-false true h = refl
-not-false false h = cc
 
 -- ---- nothing read, and another part
 
@@ -171,8 +167,8 @@ stands-processor r q h formed c =
       idle = h.idle;
       few_processors = within-one r.processors q most_processors c.limit;
       processors_differ = ap names_differ (map-append (λ p. p.name) r.processors (q ∷ [])) ∙ differ-one (map (λ p. p.name) r.processors) q.name h.processors_differ (any-map (λ p. p.name) q.name r.processors ∙ c.twice);
-      of_sheet = all-one (is_of_read_sheet r.sheet) r.processors q h.of_sheet (not-false (is_of_read_sheet r.sheet q) c.unknown);
-      counts = all-one (λ p. is_segment_count p.segments) r.processors q h.counts formed.1;
+      of_sheet = all-more (is_of_read_sheet r.sheet) r.processors q h.of_sheet (not-false (is_of_read_sheet r.sheet q) c.unknown);
+      counts = all-more (λ p. is_segment_count p.segments) r.processors q h.counts formed.1;
       few_actors = h.few_actors;
       actors_differ = h.actors_differ;
       actors = h.actors;
@@ -211,9 +207,9 @@ stands-actor r a h formed c =
       counts = h.counts;
       few_actors = within-one r.actors a most_actors c.limit;
       actors_differ = differ-one r.actors a h.actors_differ c.twice;
-      actors = all-one is_actor_name r.actors a h.actors formed.1;
+      actors = all-more is_actor_name r.actors a h.actors formed.1;
       each = length-append r.orders ([] ∷ []) ∙ (ap (λ n. n + 1) h.each ∙ sym (length-append r.actors (a ∷ [])));
-      last = all-one stops_last r.orders [] h.last refl;
+      last = all-more stops_last r.orders [] h.last refl;
       known = ap (list_all (is_known r.sheet r.processors)) same ∙ h.known;
       steps_are = h.steps_are ∙ sym (ap length same);
       shows_are = h.shows_are ∙ sym (ap (count_by is_show) same);

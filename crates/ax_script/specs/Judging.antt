@@ -4,9 +4,8 @@ use Rattle.std.specs.List.{list_any, list_all}
 use Rattle.ax_values.specs.Grammar.{Name}
 use Rattle.ax_values.specs.Words.{Payload, same_name, place_where}
 use Rattle.ax_sheet.specs.Sheet.{Sheet, command_named, fits}
-use Rattle.ax_sheet.specs.declared.parts.Command.{Command}
-use Rattle.ax_sheet.specs.Declarations.{is_of_sheet, most_actors, most_processors, same_flag}
-use Rattle.ax_sheet.specs.declared.parts.Processor.{Processor}
+use Rattle.ax_sheet.specs.Commands.{Command}
+use Rattle.ax_sheet.specs.Declarations.{is_of_sheet, most_actors, most_processors, same_flag, Processor}
 use Rattle.ax_journal.specs.Orders.{is_stop}
 use Rattle.ax_journal.specs.declared.form.Form.{Form}
 use Rattle.ax_journal.specs.declared.order.Order.{Order}

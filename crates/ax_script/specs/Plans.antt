@@ -3,8 +3,7 @@ use Rattle.std.specs.Prelude.{◌≡◌, ℕ, ◌≤◌, List, length, count_by,
 use Rattle.std.specs.List.{list_all}
 use Rattle.ax_values.specs.Grammar.{Name}
 use Rattle.ax_sheet.specs.Sheet.{Sheet}
-use Rattle.ax_sheet.specs.Declarations.{AreProcessors, AreActors}
-use Rattle.ax_sheet.specs.declared.parts.Processor.{Processor}
+use Rattle.ax_sheet.specs.Declarations.{AreProcessors, AreActors, Processor}
 use Rattle.ax_journal.specs.Orders.{stops_last}
 use Rattle.ax_journal.specs.declared.order.Order.{Order}
 use Rattle.ax_script.specs.Judging.{is_known, is_show, most_steps, most_shows}

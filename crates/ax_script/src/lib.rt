@@ -10,5 +10,5 @@ mod reader;
 mod reading;
 
 pub use kind::{ScriptFault, ScriptKind};
-pub use plan::{OrderLists, Plan, Schedule};
+pub use plan::{OrderLists, Plan, PlanParts, Schedule};
 pub use reader::read;

@@ -41,6 +41,16 @@ impl Model for Plan {
     ghost invariant = { λ p. IsPlan (record { sheet = p.sheet; processors = p.processors; actors = p.actors; orders = p.orders; schedule = p.schedule }) };
 }
 
+/// What a plan is made of.
+#[derive(Drop)]
+pub struct PlanParts {
+    pub sheet: Sheet,
+    pub processors: Processors,
+    pub actors: Names,
+    pub orders: OrderLists,
+    pub schedule: Schedule,
+}
+
 impl Plan {
     /// The plan of these parts.
     pub fn of(
@@ -100,5 +110,26 @@ impl Plan {
         ensures plan { IsPlan self.now }
     {
         &self.schedule
+    }
+
+    /// The plan's parts, given away.
+    pub fn into_parts(self) -> PlanParts
+        ensures value { result ≡ record { sheet = self.sheet; processors = self.processors; actors = self.actors; orders = self.orders; schedule = self.schedule } }
+        ensures plan { IsPlan self }
+    {
+        let Plan {
+            sheet,
+            processors,
+            actors,
+            orders,
+            schedule,
+        } = self;
+        PlanParts {
+            sheet,
+            processors,
+            actors,
+            orders,
+            schedule,
+        }
     }
 }

@@ -5,7 +5,7 @@ use Rattle.std.proofs.lemmas.List.{length-set}
 use Rattle.ax_state.specs.Every.{count, one}
 use Rattle.ax_state.specs.Setting.{name_at}
 use Rattle.ax_state.specs.State.{State, Desk, Reservation, desk_at, empty_desk, with_desk}
-use Rattle.ax_state.specs.WellFormed.{IsWellFormed, AreReserved, HoldsCells, IsSeat, IsBatchIn, holds_cell}
+use Rattle.ax_state.specs.WellFormed.{IsWellFormed, AreReserved, HoldsCells, IsDeskOf, IsBatchIn, holds_cell}
 use Rattle.ax_state.proofs.Lists.{All-set, All-at, AllFrom-set, AllFrom-at, count-set}
 
 abbrev reserving : State → ℕ → Option Reservation → Desk
@@ -18,15 +18,15 @@ kept-reservation m actor o reserved h = record {
   log = h.log;
   clock = h.clock;
   reserved = reserved;
-  places = h.places;
+  processors = h.processors;
   declared = h.declared;
   actors = length-set m.desks actor (reserving m actor o) ∙ h.actors;
   fences = h.fences;
-  desks = AllFrom-set (λ k d. IsSeat m.fence m.shelves (name_at m.setting.actors k) d) 0 m.desks actor (reserving m actor o) h.desks (λ k e. seat k (AllFrom-at (λ j d. IsSeat m.fence m.shelves (name_at m.setting.actors j) d) 0 m.desks actor empty_desk h.desks (λ j. record { held = tt; batch = tt }) k e));
-  batches = All-set (λ d. IfSome d.batch (IsBatchIn m.setting m.cells m.shelves)) m.desks actor (reserving m actor o) h.batches (All-at (λ d. IfSome d.batch (IsBatchIn m.setting m.cells m.shelves)) m.desks actor empty_desk h.batches tt);
+  desks = AllFrom-set (λ k d. IsDeskOf m.fence m.processor_states (name_at m.setting.actors k) d) 0 m.desks actor (reserving m actor o) h.desks (λ k e. seat k (AllFrom-at (λ j d. IsDeskOf m.fence m.processor_states (name_at m.setting.actors j) d) 0 m.desks actor empty_desk h.desks (λ j. record { held = tt; batch = tt }) k e));
+  batches = All-set (λ d. IfSome d.batch (IsBatchIn m.setting m.cells m.processor_states)) m.desks actor (reserving m actor o) h.batches (All-at (λ d. IfSome d.batch (IsBatchIn m.setting m.cells m.processor_states)) m.desks actor empty_desk h.batches tt);
 }
   where
-    seat : (k : ℕ) → IsSeat m.fence m.shelves (name_at m.setting.actors k) (desk_at m actor) → IsSeat m.fence m.shelves (name_at m.setting.actors k) (reserving m actor o)
+    seat : (k : ℕ) → IsDeskOf m.fence m.processor_states (name_at m.setting.actors k) (desk_at m actor) → IsDeskOf m.fence m.processor_states (name_at m.setting.actors k) (reserving m actor o)
     seat k h = record { held = h.held; batch = h.batch }
 
 -- a reservation may always be given up

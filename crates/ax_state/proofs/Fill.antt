@@ -12,13 +12,14 @@ use Rattle.ax_tokens.specs.Plain.{Plain}
 use Rattle.ax_tokens.specs.Tokens.{Token, plain, merged, replay, half, covers_here, covers, parts}
 use Rattle.ax_state.specs.Every.{AllFrom}
 use Rattle.ax_state.specs.Setting.{Setting}
-use Rattle.ax_state.specs.State.{Shelf, Batch}
+use Rattle.ax_state.specs.State.{ProcessorState, Batch}
 use Rattle.ax_state.specs.Positions.{first_letter, drops_of}
 use Rattle.ax_state.specs.Portions.{Portion, portions, put_portion, portion_cmp, portion_covers, covered_by, covered_events}
-use Rattle.ax_state.specs.WellFormed.{IsPlainOver, IsTokenOver, AreTokens, CoverPrefix, HasRows, IsPlace, IsStanding, IsBatchRow, IsBatchAt, IsBatchIn, is_prefix_test, reserved_by}
+use Rattle.ax_state.specs.WellFormed.{IsPlainOver, IsTokenOver, AreTokens, CoverPrefix, HasRows, IsProcessorState, IsStanding, IsBatchRow, IsBatchAt, IsBatchIn, is_prefix_test, reserved_by}
 use Rattle.ax_state.proofs.Lists.{All-map, All-put}
 use Rattle.ax_values.specs.declared.cell.Cell.{Cell}
 use Rattle.ax_values.specs.declared.record.Record.{Record}
+use Rattle.ax_laws.proofs.Lists.{none-left}
 
 -- an event of the aggregate
 abbrev pub Own : Name → Record → Type 0
@@ -142,10 +143,6 @@ stored_at i (r ∷ rs) = record { index = i; record_of = r } ∷ stored_at (suc 
 same-self : (a b : Name) → a ≡ b → same_name a b ≡ true
 same-self a b e = (bytes_eq-Decides a b).1 e
 
-none-left : {A : Type 0} (xs : List A) → length xs ≡ 0 → xs ≡ []
-none-left [] e = refl
-none-left (x ∷ xs) e = absurd (omega arith)
-
 -- where no event of a stands from here on
 stream-here : (a : Name) (k : ℕ) (rs : List Record) (cells : List Cell) → AllByRecursion (Own a) rs → Ready cells 0 (length rs) → filter (is_of a) (events_from k cells) ≡ []
     → filter (is_of a) (events_from k (put_cells zero (map Cell.Event rs) cells)) ≡ stored_at k rs
@@ -236,7 +233,7 @@ prefix-fills a i rs cells ps f all h b = at (same_name a b) refl
         (prefix-append (map (λ x. covered_by ps (hash_of b) x.index) (stream_in b (events cells))) (map (λ x. covered_by ps (hash_of b) x.index) (stored_at i rs)) (uncovered cells ps (hash_of b) i rs all f.ready) (h b))
     at false e = rw (fills-others a b cells later (λ x n. ap (λ (y : Name). same_name y b) n ∙ e) (fills-put (Own a) i rs cells f.ready f.own)) (h b)
 
--- ---- tokens and places
+-- ---- tokens and processors
 
 filled-settled : (N : Record → Type 0) (cells later : List Cell) (i : ℕ) → Fills N cells later → is_settled cells i ≡ true → is_settled later i ≡ true
 filled-settled N [] [] i f h = h
@@ -277,13 +274,13 @@ fills-reserved_by N now (c ∷ cs) [] f h = absurd f
 fills-reserved_by N now (c ∷ cs) (d ∷ ds) f h = (step-reserved N now c d f.0 h.0, fills-reserved_by N now cs ds f.1 h.1)
 
 -- what holds of a processor
-pub place-fills : (setting : Setting) (a : Name) (i : ℕ) (rs : List Record) (cells : List Cell) → IsFill a i rs cells → (p : ℕ) (shelf : Shelf) → IsPlace setting cells p shelf → IsPlace setting (put_cells i (map Cell.Event rs) cells) p shelf
-place-fills setting a i rs cells f p shelf h = record {
+pub place-fills : (setting : Setting) (a : Name) (i : ℕ) (rs : List Record) (cells : List Cell) → IsFill a i rs cells → (p : ℕ) (processor_state : ProcessorState) → IsProcessorState setting cells p processor_state → IsProcessorState setting (put_cells i (map Cell.Event rs) cells) p processor_state
+place-fills setting a i rs cells f p processor_state h = record {
   parts = h.parts;
-  tokens = All-map (λ x. IsTokenOver cells x.segment.mask x.token) (λ x. IsTokenOver later x.segment.mask x.token) (λ x. token-fills (Own a) cells later g x.segment.mask x.token) (portions shelf.rows) h.tokens;
+  tokens = All-map (λ x. IsTokenOver cells x.segment.mask x.token) (λ x. IsTokenOver later x.segment.mask x.token) (λ x. token-fills (Own a) cells later g x.segment.mask x.token) (portions processor_state.rows) h.tokens;
   folded = record {
-    prefixes = prefix-fills a i rs cells (portions shelf.rows) f h.tokens h.folded.prefixes;
-    rows = subst (λ (cs : List Stored). HasRows setting p cs (first_letter shelf) (drops_of shelf)) (sym (fills-covered (Own a) cells later (portions shelf.rows) g h.tokens)) h.folded.rows;
+    prefixes = prefix-fills a i rs cells (portions processor_state.rows) f h.tokens h.folded.prefixes;
+    rows = subst (λ (cs : List Stored). HasRows setting p cs (first_letter processor_state) (drops_of processor_state)) (sym (fills-covered (Own a) cells later (portions processor_state.rows) g h.tokens)) h.folded.rows;
   };
   gapless = h.gapless;
   owners = h.owners;
@@ -319,8 +316,8 @@ standing-fills a i rs cells f ps b t all h = record {
     g : Fills (Own a) cells later
     g = fills-put (Own a) i rs cells f.ready f.own
 
-batch-at-fills : (setting : Setting) (a : Name) (i : ℕ) (rs : List Record) (cells : List Cell) → IsFill a i rs cells → (b : Batch) (n : ℕ) (shelves : List Shelf) → AllFrom (IsPlace setting cells) n shelves
-    → AllFrom (IsBatchAt cells b) n shelves → AllFrom (IsBatchAt (put_cells i (map Cell.Event rs) cells) b) n shelves
+batch-at-fills : (setting : Setting) (a : Name) (i : ℕ) (rs : List Record) (cells : List Cell) → IsFill a i rs cells → (b : Batch) (n : ℕ) (processor_states : List ProcessorState) → AllFrom (IsProcessorState setting cells) n processor_states
+    → AllFrom (IsBatchAt cells b) n processor_states → AllFrom (IsBatchAt (put_cells i (map Cell.Event rs) cells) b) n processor_states
 batch-at-fills setting a i rs cells f b n [] p h = tt
 batch-at-fills setting a i rs cells f b n (x ∷ xs) p h = (
   λ e. All-map (IsBatchRow cells (portions x.rows) b) (IsBatchRow (put_cells i (map Cell.Event rs) cells) (portions x.rows) b)
@@ -328,7 +325,7 @@ batch-at-fills setting a i rs cells f b n (x ∷ xs) p h = (
   batch-at-fills setting a i rs cells f b (suc n) xs p.1 h.1,
 )
 
-pub batch-fills : (setting : Setting) (a : Name) (i : ℕ) (rs : List Record) (cells : List Cell) → IsFill a i rs cells → (shelves : List Shelf) → AllFrom (IsPlace setting cells) 0 shelves
-    → (o : Option Batch) → IfSome o (IsBatchIn setting cells shelves) → IfSome o (IsBatchIn setting (put_cells i (map Cell.Event rs) cells) shelves)
-batch-fills setting a i rs cells f shelves p None h = tt
-batch-fills setting a i rs cells f shelves p (Some b) h = record { declared = h.declared; rows = batch-at-fills setting a i rs cells f b 0 shelves p h.rows }
+pub batch-fills : (setting : Setting) (a : Name) (i : ℕ) (rs : List Record) (cells : List Cell) → IsFill a i rs cells → (processor_states : List ProcessorState) → AllFrom (IsProcessorState setting cells) 0 processor_states
+    → (o : Option Batch) → IfSome o (IsBatchIn setting cells processor_states) → IfSome o (IsBatchIn setting (put_cells i (map Cell.Event rs) cells) processor_states)
+batch-fills setting a i rs cells f processor_states p None h = tt
+batch-fills setting a i rs cells f processor_states p (Some b) h = record { declared = h.declared; rows = batch-at-fills setting a i rs cells f b 0 processor_states p h.rows }

@@ -4,7 +4,7 @@ use Rattle.std.specs.List.{AllByRecursion, list_all}
 use Rattle.std.proofs.Common.{refl, ap, sym, ◌∙◌, subst, subst₂, inl, ⊎_elim, arith}
 use Rattle.std.proofs.lemmas.List.{take_all}
 use Rattle.ax_values.specs.Grammar.{Name}
-use Rattle.ax_values.proofs.Options.{both, and-true}
+use Rattle.ax_laws.proofs.Tests.{both, and-true}
 use Rattle.ax_log.specs.Log.{Stored, events_from, is_of, length_of, is_reserved, is_settled, option_is}
 use Rattle.ax_log.specs.Order.{AreNumbered, IsReservedRight, IsOrdered, is_small, max_cells}
 use Rattle.ax_log.specs.Answers.{aggregate_of}
@@ -12,10 +12,10 @@ use Rattle.ax_log.proofs.Order.{IsQuiet}
 use Rattle.ax_tokens.specs.Plain.{Plain}
 use Rattle.ax_tokens.specs.Tokens.{Token, parts}
 use Rattle.ax_state.specs.Setting.{Setting, name_at}
-use Rattle.ax_state.specs.State.{State, Shelf, Batch, Desk, Reservation, with_cells}
+use Rattle.ax_state.specs.State.{State, ProcessorState, Batch, Desk, Reservation, with_cells}
 use Rattle.ax_state.specs.Positions.{first_letter, drops_of}
 use Rattle.ax_state.specs.Portions.{Portion, portions, put_portion}
-use Rattle.ax_state.specs.WellFormed.{IsWellFormed, reserved_by, IsPlainOver, IsTokenOver, IsHeldCell, IsReservation, HoldsCells, IsPlace, IsFolded, CoverPrefix, IsStanding, IsBatchRow, IsBatchAt, IsBatchIn}
+use Rattle.ax_state.specs.WellFormed.{IsWellFormed, reserved_by, IsPlainOver, IsTokenOver, IsHeldCell, IsReservation, HoldsCells, IsProcessorState, IsFolded, CoverPrefix, IsStanding, IsBatchRow, IsBatchAt, IsBatchIn}
 use Rattle.ax_state.proofs.Lists.{All-map, AllFrom-map}
 use Rattle.ax_values.specs.declared.cell.Cell.{Cell}
 
@@ -131,13 +131,13 @@ token-grows cells later g mask t h = record {
   stays = h.stays;
 }
 
--- ---- places
+-- ---- processors
 
-place-grows : (setting : Setting) (cells later : List Cell) → Grows cells later → (p : ℕ) (shelf : Shelf) → IsPlace setting cells p shelf → IsPlace setting later p shelf
-place-grows setting cells later g p shelf h = record {
+place-grows : (setting : Setting) (cells later : List Cell) → Grows cells later → (p : ℕ) (processor_state : ProcessorState) → IsProcessorState setting cells p processor_state → IsProcessorState setting later p processor_state
+place-grows setting cells later g p processor_state h = record {
   parts = h.parts;
-  tokens = All-map (λ x. IsTokenOver cells x.segment.mask x.token) (λ x. IsTokenOver later x.segment.mask x.token) (λ x. token-grows cells later g x.segment.mask x.token) (portions shelf.rows) h.tokens;
-  folded = subst (λ (es : List Stored). IsFolded setting p es (portions shelf.rows) (first_letter shelf) (drops_of shelf)) (sym (grows-events 0 cells later g)) h.folded;
+  tokens = All-map (λ x. IsTokenOver cells x.segment.mask x.token) (λ x. IsTokenOver later x.segment.mask x.token) (λ x. token-grows cells later g x.segment.mask x.token) (portions processor_state.rows) h.tokens;
+  folded = subst (λ (es : List Stored). IsFolded setting p es (portions processor_state.rows) (first_letter processor_state) (drops_of processor_state)) (sym (grows-events 0 cells later g)) h.folded;
   gapless = h.gapless;
   owners = h.owners;
 }
@@ -158,22 +158,22 @@ standing-grows cells later g ps b t h = record {
   prefixes = subst (λ (es : List Stored). CoverPrefix es (put_portion (record { segment = b.segment; token = b.new }) ps)) (sym (grows-events 0 cells later g)) h.prefixes;
 }
 
-batch-at-grows : (cells later : List Cell) → Grows cells later → (b : Batch) (q : ℕ) (shelf : Shelf) → IsBatchAt cells b q shelf → IsBatchAt later b q shelf
-batch-at-grows cells later g b q shelf h e =
-    All-map (IsBatchRow cells (portions shelf.rows) b) (IsBatchRow later (portions shelf.rows) b) (λ r k same fence. standing-grows cells later g (portions shelf.rows) b r.token (k same fence)) shelf.rows (h e)
+batch-at-grows : (cells later : List Cell) → Grows cells later → (b : Batch) (q : ℕ) (processor_state : ProcessorState) → IsBatchAt cells b q processor_state → IsBatchAt later b q processor_state
+batch-at-grows cells later g b q processor_state h e =
+    All-map (IsBatchRow cells (portions processor_state.rows) b) (IsBatchRow later (portions processor_state.rows) b) (λ r k same fence. standing-grows cells later g (portions processor_state.rows) b r.token (k same fence)) processor_state.rows (h e)
 
-batch-grows : (setting : Setting) (cells later : List Cell) → Grows cells later → (shelves : List Shelf) (b : Batch) → IsBatchIn setting cells shelves b → IsBatchIn setting later shelves b
-batch-grows setting cells later g shelves b h = record {
+batch-grows : (setting : Setting) (cells later : List Cell) → Grows cells later → (processor_states : List ProcessorState) (b : Batch) → IsBatchIn setting cells processor_states b → IsBatchIn setting later processor_states b
+batch-grows setting cells later g processor_states b h = record {
   declared = h.declared;
-  rows = AllFrom-map (IsBatchAt cells b) (IsBatchAt later b) (batch-at-grows cells later g b) 0 shelves h.rows;
+  rows = AllFrom-map (IsBatchAt cells b) (IsBatchAt later b) (batch-at-grows cells later g b) 0 processor_states h.rows;
 }
 
-batches-grow : (setting : Setting) (cells later : List Cell) → Grows cells later → (shelves : List Shelf) (d : Desk) → IfSome d.batch (IsBatchIn setting cells shelves) → IfSome d.batch (IsBatchIn setting later shelves)
-batches-grow setting cells later g shelves d h = at d.batch h
+batches-grow : (setting : Setting) (cells later : List Cell) → Grows cells later → (processor_states : List ProcessorState) (d : Desk) → IfSome d.batch (IsBatchIn setting cells processor_states) → IfSome d.batch (IsBatchIn setting later processor_states)
+batches-grow setting cells later g processor_states d h = at d.batch h
   where
-    at : (o : Option Batch) → IfSome o (IsBatchIn setting cells shelves) → IfSome o (IsBatchIn setting later shelves)
+    at : (o : Option Batch) → IfSome o (IsBatchIn setting cells processor_states) → IfSome o (IsBatchIn setting later processor_states)
     at None h = tt
-    at (Some b) h = batch-grows setting cells later g shelves b h
+    at (Some b) h = batch-grows setting cells later g processor_states b h
 
 -- ---- reservations
 
@@ -274,10 +274,10 @@ kept-grown m later g ordered moments h = record {
     each = AllFrom-map (λ k d. HoldsCells m.cells (name_at m.setting.actors k) d) (λ k d. HoldsCells later (name_at m.setting.actors k) d) (λ k d. holds-grows m.cells later g (name_at m.setting.actors k) d) 0 m.desks h.reserved.each;
     apart = h.reserved.apart;
   };
-  places = AllFrom-map (IsPlace m.setting m.cells) (IsPlace m.setting later) (place-grows m.setting m.cells later g) 0 m.shelves h.places;
+  processors = AllFrom-map (IsProcessorState m.setting m.cells) (IsProcessorState m.setting later) (place-grows m.setting m.cells later g) 0 m.processor_states h.processors;
   declared = h.declared;
   actors = h.actors;
   fences = h.fences;
   desks = h.desks;
-  batches = All-map (λ d. IfSome d.batch (IsBatchIn m.setting m.cells m.shelves)) (λ d. IfSome d.batch (IsBatchIn m.setting later m.shelves)) (batches-grow m.setting m.cells later g m.shelves) m.desks h.batches;
+  batches = All-map (λ d. IfSome d.batch (IsBatchIn m.setting m.cells m.processor_states)) (λ d. IfSome d.batch (IsBatchIn m.setting later m.processor_states)) (batches-grow m.setting m.cells later g m.processor_states) m.desks h.batches;
 }

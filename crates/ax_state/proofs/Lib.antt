@@ -2,6 +2,6 @@ pub mod Lists
 pub mod Desks
 pub mod Grow
 pub mod Fill
-pub mod Puts
+pub mod RowPuts
 pub mod Starting
 pub mod Prefixes

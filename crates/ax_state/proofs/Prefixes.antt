@@ -11,23 +11,16 @@ use Rattle.ax_rules.specs.Rules.{Rules, fold_items}
 use Rattle.ax_upcast.specs.Upcast.{upcast}
 use Rattle.ax_projections.specs.Items.{Placed, placed, placed_items, items_of, plain_items}
 use Rattle.ax_claims.specs.Rows.{TokenRow}
-use Rattle.ax_state.specs.State.{Shelf}
+use Rattle.ax_state.specs.State.{ProcessorState}
 use Rattle.ax_state.specs.Positions.{row_covers, covered_in, covered_items_in, first_letter, drops_of, position_in, row_in, undropped}
 use Rattle.ax_state.specs.Portions.{Portion, portion_of, portions, portion_covers, covered_by, items_in, covered_events, position_by, row_by}
 use Rattle.ax_state.specs.WellFormed.{CoverPrefix, is_prefix_test}
 use Rattle.ax_values.specs.declared.cell.Cell.{Cell}
 use Rattle.ax_values.specs.declared.item.Item.{Item}
 use Rattle.ax_upcast.specs.declared.upcaster.Upcaster.{Upcaster}
+use Rattle.ax_laws.proofs.Lists.{none-pass, take-front}
 
 -- ---- lists
-
-none-pass : {A : Type 0} (t : A → Bool) (xs : List A) → list_all not (map t xs) ≡ true → filter t xs ≡ []
-none-pass t [] h = refl
-none-pass t (x ∷ xs) h = at (t x) h (none-pass t xs)
-  where
-    at : (b : Bool) → list_all not (b ∷ map t xs) ≡ true → (list_all not (map t xs) ≡ true → filter t xs ≡ []) → (if b then x ∷ filter t xs else filter t xs) ≡ []
-    at true h ih = absurd (cc)
-    at false h ih = ih h
 
 -- what passes is a prefix
 pub passing-prefix : {A : Type 0} (t : A → Bool) (xs : List A) → is_prefix_test (map t xs) ≡ true → filter t xs ≡ take (length (filter t xs)) xs
@@ -129,10 +122,6 @@ items-prefix chain es ps a h =
       ap (flat_map (placed_items chain)) (sym (take-append-drop n s)) ∙ flat_map-append (placed_items chain) (take n s) (drop n s) ∙ ap (λ es. flat_map (placed_items chain) es ++ flat_map (placed_items chain) (drop n s)) (sym front),
     )
 
-take-front : {A : Type 0} (xs ys : List A) → take (length xs) (xs ++ ys) ≡ xs
-take-front [] ys = refl
-take-front (x ∷ xs) ys = ap (λ zs. x ∷ zs) (take-front xs ys)
-
 take-length : {A : Type 0} (xs : List A) → take (length xs) xs ≡ xs
 take-length [] = refl
 take-length (x ∷ xs) = ap (λ zs. x ∷ zs) (take-length xs)
@@ -140,18 +129,18 @@ take-length (x ∷ xs) = ap (λ zs. x ∷ zs) (take-length xs)
 -- ---- the law
 
 -- the position that is counted in all items is that by the covered events
-pub same-position : (chain : List Upcaster) (cells : List Cell) (shelf : Shelf) (a : Name) → position_in chain cells shelf a ≡ position_by chain (covered_events (portions shelf.rows) (events cells)) (first_letter shelf a) a
-same-position chain cells shelf a = ap length (covered-items chain cells shelf.rows a)
+pub same-position : (chain : List Upcaster) (cells : List Cell) (processor_state : ProcessorState) (a : Name) → position_in chain cells processor_state a ≡ position_by chain (covered_events (portions processor_state.rows) (events cells)) (first_letter processor_state a) a
+same-position chain cells processor_state a = ap length (covered-items chain cells processor_state.rows a)
 
 -- the row that is folded from a prefix of all items is that by the covered events
-pub same-row : (rules : Rules) (chain : List Upcaster) (cells : List Cell) (shelf : Shelf) (a : Name) → CoverPrefix (events cells) (portions shelf.rows)
-    → row_in rules chain cells shelf a ≡ row_by rules chain (covered_events (portions shelf.rows) (events cells)) (first_letter shelf a) (drops_of shelf) a
-same-row rules chain cells shelf a h =
-    ap (λ n. fold_items rules (plain_items (undropped (drops_of shelf) (take n (items_of chain a cells))))) (same-position chain cells shelf a)
-    ∙ ap (λ xs. fold_items rules (plain_items (undropped (drops_of shelf) xs))) (ap (take (length covered)) split.1 ∙ take-front covered split.0 ∙ sym (take-length covered))
+pub same-row : (rules : Rules) (chain : List Upcaster) (cells : List Cell) (processor_state : ProcessorState) (a : Name) → CoverPrefix (events cells) (portions processor_state.rows)
+    → row_in rules chain cells processor_state a ≡ row_by rules chain (covered_events (portions processor_state.rows) (events cells)) (first_letter processor_state a) (drops_of processor_state) a
+same-row rules chain cells processor_state a h =
+    ap (λ n. fold_items rules (plain_items (undropped (drops_of processor_state) (take n (items_of chain a cells))))) (same-position chain cells processor_state a)
+    ∙ ap (λ xs. fold_items rules (plain_items (undropped (drops_of processor_state) xs))) (ap (take (length covered)) split.1 ∙ take-front covered split.0 ∙ sym (take-length covered))
   where
     covered : List Placed
-    covered = items_in chain (covered_events (portions shelf.rows) (events cells)) a
+    covered = items_in chain (covered_events (portions processor_state.rows) (events cells)) a
 
     split : (rest : List Placed) × (items_in chain (events cells) a ≡ covered ++ rest)
-    split = items-prefix chain (events cells) (portions shelf.rows) a h
+    split = items-prefix chain (events cells) (portions processor_state.rows) a h

@@ -4,18 +4,17 @@ use Rattle.std.specs.List.{AllByRecursion, list_all}
 use Rattle.std.proofs.lemmas.Bool.Decides.{nat_tests}
 use Rattle.ax_values.specs.Grammar.{Name}
 use Rattle.ax_values.specs.Words.{rises}
-use Rattle.ax_values.proofs.Options.{both}
+use Rattle.ax_laws.proofs.Tests.{both}
 use Rattle.ax_segments.specs.Segments.{matches, max_mask}
 use Rattle.ax_tokens.specs.Plain.{nothing}
-use Rattle.ax_sheet.specs.Declarations.{is_segment_count}
+use Rattle.ax_sheet.specs.Declarations.{is_segment_count, Processor}
 use Rattle.ax_claims.specs.Rows.{TokenRow, AreRows, row_below, first_rows, starting}
 use Rattle.ax_claims.proofs.Starts.{are-starting}
 use Rattle.ax_state.specs.Every.{AllFrom, count, one}
 use Rattle.ax_state.specs.Setting.{Setting, IsSetting, name_at}
-use Rattle.ax_state.specs.State.{Desk, empty_desk, first_shelves, row_count, start}
+use Rattle.ax_state.specs.State.{Desk, empty_desk, first_processors, row_count, start}
 use Rattle.ax_state.specs.Portions.{portions, portion_of}
-use Rattle.ax_state.specs.WellFormed.{IsWellFormed, AreCommands, AreParts, AreTokens, IsPlainOver, IsTokenOver, IsPlace, IsShelfBy, IsFencedShelf, IsSeat, IsBatchIn, HoldsCells, IsOwnedRight, holds_cell, fence_count, is_gapless}
-use Rattle.ax_sheet.specs.declared.parts.Processor.{Processor}
+use Rattle.ax_state.specs.WellFormed.{IsWellFormed, AreCommands, AreParts, AreTokens, IsPlainOver, IsTokenOver, IsProcessorState, IsProcessorBy, IsFencedProcessor, IsDeskOf, IsBatchIn, HoldsCells, IsOwnedRight, holds_cell, fence_count, is_gapless}
 
 -- ---- portions of rows
 
@@ -90,7 +89,7 @@ gapless-first : (mask fence past : ℕ) (rows : List TokenRow) → AllByRecursio
 gapless-first mask fence past [] h = tt
 gapless-first mask fence past (r ∷ rows) h = (h.0.gapless, gapless-first mask fence past rows h.1)
 
-place-first : (setting : Setting) (p n fence : ℕ) → IsTrue (is_segment_count n) → IsPlace setting [] p (record { rows = starting n fence })
+place-first : (setting : Setting) (p n fence : ℕ) → IsTrue (is_segment_count n) → IsProcessorState setting [] p (record { rows = starting n fence })
 place-first setting p n fence h =
     let small : (0 < n) × (n ≤ 16) = small-count n h in
     let rows : AllByRecursion (IsFirst (n - 1) fence (fence + n)) (starting n fence) = rows-first n fence (fence + n) small.1 (omega arith) in
@@ -102,38 +101,38 @@ place-first setting p n fence h =
       owners = each (IsFirst (n - 1) fence (fence + n)) IsOwnedRight (λ r f. f.owner) (starting n fence) rows;
     }
 
--- ---- the shelves
+-- ---- the processor_states
 
 abbrev Counted : List Processor → Type 0
 Counted qs = IsTrue (list_all (λ q. is_segment_count q.segments) qs)
 
-places-first : (setting : Setting) (qs : List Processor) (p fence : ℕ) → Counted qs → AllFrom (IsPlace setting []) p (first_shelves qs fence)
-places-first setting [] p fence h = tt
-places-first setting (q ∷ qs) p fence h =
+processors-first : (setting : Setting) (qs : List Processor) (p fence : ℕ) → Counted qs → AllFrom (IsProcessorState setting []) p (first_processors qs fence)
+processors-first setting [] p fence h = tt
+processors-first setting (q ∷ qs) p fence h =
     let k = both (is_segment_count q.segments) (list_all (λ q. is_segment_count q.segments) qs) h in
-    (place-first setting p q.segments fence k.0, places-first setting qs (suc p) (fence + q.segments) k.1)
+    (place-first setting p q.segments fence k.0, processors-first setting qs (suc p) (fence + q.segments) k.1)
 
-shelves-by : (qs : List Processor) (fence : ℕ) → Counted qs → AllByRecursion (IsShelfBy 0) (first_shelves qs fence)
-shelves-by [] fence h = tt
-shelves-by (q ∷ qs) fence h =
+processor_states-by : (qs : List Processor) (fence : ℕ) → Counted qs → AllByRecursion (IsProcessorBy 0) (first_processors qs fence)
+processor_states-by [] fence h = tt
+processor_states-by (q ∷ qs) fence h =
     let k = both (is_segment_count q.segments) (list_all (λ q. is_segment_count q.segments) qs) h in
     let small = small-count q.segments k.0 in (
       each (IsFirst (q.segments - 1) fence (fence + q.segments)) (λ r. r.since ≤ 0) (λ r f. f.since) (starting q.segments fence) (rows-first q.segments fence (fence + q.segments) small.1 (omega arith)),
-      shelves-by qs (fence + q.segments) k.1,
+      processor_states-by qs (fence + q.segments) k.1,
     )
 
-shelves-fenced : (qs : List Processor) (fence most : ℕ) → Counted qs → 0 < fence → fence + row_count qs ≤ suc most → AllByRecursion (IsFencedShelf most) (first_shelves qs fence)
-shelves-fenced [] fence most h pos le = tt
-shelves-fenced (q ∷ qs) fence most h pos le =
+processor_states-fenced : (qs : List Processor) (fence most : ℕ) → Counted qs → 0 < fence → fence + row_count qs ≤ suc most → AllByRecursion (IsFencedProcessor most) (first_processors qs fence)
+processor_states-fenced [] fence most h pos le = tt
+processor_states-fenced (q ∷ qs) fence most h pos le =
     let k = both (is_segment_count q.segments) (list_all (λ q. is_segment_count q.segments) qs) h in
     let small = small-count q.segments k.0 in (
       each (IsFirst (q.segments - 1) fence (fence + q.segments)) (λ r. (0 < r.fence) × (r.fence ≤ most)) (λ r f. (let a : fence ≤ r.fence = f.least in omega arith, let b : r.fence < fence + q.segments = f.most in omega arith)) (starting q.segments fence) (rows-first q.segments fence (fence + q.segments) small.1 (omega arith)),
-      shelves-fenced qs (fence + q.segments) most k.1 (omega arith) (omega arith),
+      processor_states-fenced qs (fence + q.segments) most k.1 (omega arith) (omega arith),
     )
 
-shelves-count : (qs : List Processor) (fence : ℕ) → length (first_shelves qs fence) ≡ length qs
-shelves-count [] fence = refl
-shelves-count (q ∷ qs) fence = ap suc (shelves-count qs (fence + q.segments))
+processor_states-count : (qs : List Processor) (fence : ℕ) → length (first_processors qs fence) ≡ length qs
+processor_states-count [] fence = refl
+processor_states-count (q ∷ qs) fence = ap suc (processor_states-count qs (fence + q.segments))
 
 -- ---- fences differ
 
@@ -159,18 +158,18 @@ rows-once f (suc n) id mask fence = at (fence == f) refl (rows-once f n (suc id)
         let m : rest ≤ 1 = h.most in
         record { most = omega arith; before = λ k. (let z : rest ≡ 0 = h.before (omega arith) in omega arith); behind = λ k. (let z : rest ≡ 0 = h.behind (omega arith) in omega arith) }
 
-shelves-once : (f : ℕ) (qs : List Processor) (fence : ℕ) → Once f fence (fence + row_count qs) (fence_count f (first_shelves qs fence))
-shelves-once f [] fence = record { most = omega arith; before = λ h. refl; behind = λ h. refl }
-shelves-once f (q ∷ qs) fence =
+processor_states-once : (f : ℕ) (qs : List Processor) (fence : ℕ) → Once f fence (fence + row_count qs) (fence_count f (first_processors qs fence))
+processor_states-once f [] fence = record { most = omega arith; before = λ h. refl; behind = λ h. refl }
+processor_states-once f (q ∷ qs) fence =
     let a = rows-once f q.segments 0 (q.segments - 1) fence in
-    let b = shelves-once f qs (fence + q.segments) in
+    let b = processor_states-once f qs (fence + q.segments) in
     at (nat_lt f (fence + q.segments)) refl a b
   where
     here : ℕ
     here = count (λ r. r.fence == f) (starting q.segments fence)
 
     rest : ℕ
-    rest = fence_count f (first_shelves qs (fence + q.segments))
+    rest = fence_count f (first_processors qs (fence + q.segments))
 
     at : (c : Bool) → nat_lt f (fence + q.segments) ≡ c → Once f fence (fence + q.segments) here → Once f (fence + q.segments) (fence + q.segments + row_count qs) rest → Once f fence (fence + (q.segments + row_count qs)) (here + rest)
     at true e a b =
@@ -208,12 +207,12 @@ pub starts : (s : Setting) → AreCommands s.sheet → IsSetting s → IsWellFor
 starts s commands h = record {
   sheet = commands;
   log = record { numbered = λ a. tt; reserved = λ i a n w t e. absurd (cc); size = omega arith; small = refl };
-  clock = record { limit = omega arith; reserved = tt; kept = shelves-by s.processors 1 h.processors.counts };
+  clock = record { limit = omega arith; reserved = tt; kept = processor_states-by s.processors 1 h.processors.counts };
   reserved = record { each = desks-empty (λ k d. HoldsCells [] (name_at s.actors k) d) (λ k. tt) 0 s.actors; apart = λ i. none-held i s.actors };
-  places = places-first s s.processors 0 1 h.processors.counts;
-  declared = shelves-count s.processors 1;
+  processors = processors-first s s.processors 0 1 h.processors.counts;
+  declared = processor_states-count s.processors 1;
   actors = desks-count s.actors;
-  fences = record { distinct = λ f pos. (shelves-once f s.processors 1).most; within = shelves-fenced s.processors 1 (row_count s.processors) h.processors.counts (omega arith) (omega arith) };
-  desks = desks-empty (λ k d. IsSeat (row_count s.processors) (first_shelves s.processors 1) (name_at s.actors k) d) (λ k. record { held = tt; batch = tt }) 0 s.actors;
-  batches = each-empty (λ d. IfSome d.batch (IsBatchIn s [] (first_shelves s.processors 1))) tt s.actors;
+  fences = record { distinct = λ f pos. (processor_states-once f s.processors 1).most; within = processor_states-fenced s.processors 1 (row_count s.processors) h.processors.counts (omega arith) (omega arith) };
+  desks = desks-empty (λ k d. IsDeskOf (row_count s.processors) (first_processors s.processors 1) (name_at s.actors k) d) (λ k. record { held = tt; batch = tt }) 0 s.actors;
+  batches = each-empty (λ d. IfSome d.batch (IsBatchIn s [] (first_processors s.processors 1))) tt s.actors;
 }

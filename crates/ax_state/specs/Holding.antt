@@ -2,7 +2,7 @@
 use Rattle.std.specs.Prelude.{ℕ, ◌==◌, Bool, ◌&&◌, List, find, Option, Some, None, option_map, if◌then◌else◌}
 use Rattle.ax_segments.specs.Segments.{Segment, same_segment}
 use Rattle.ax_claims.specs.Rows.{TokenRow, row_at}
-use Rattle.ax_state.specs.State.{State, Held, desk_at, shelf_at}
+use Rattle.ax_state.specs.State.{State, Held, desk_at, processor_state_at}
 use Rattle.ax_state.specs.Answer.{Answer, answer}
 use Rattle.ax_journal.specs.declared.reply.Reply.{Reply}
 
@@ -27,4 +27,4 @@ checked m None (Some r) next = next r
 
 -- a step on a row whose present fence the desk holds
 abbrev pub on_held_row : State → ℕ → ℕ → Segment → (TokenRow → Answer) → Answer
-on_held_row m actor p s next = checked m (held_check (held_fence p s (desk_at m actor).held) (row_at s (shelf_at m p).rows)) (row_at s (shelf_at m p).rows) next
+on_held_row m actor p s next = checked m (held_check (held_fence p s (desk_at m actor).held) (row_at s (processor_state_at m p).rows)) (row_at s (processor_state_at m p).rows) next

@@ -11,7 +11,7 @@ use Rattle.ax_tokens.specs.Tokens.{Token, covers, plain, merged, replay}
 use Rattle.ax_projections.specs.Items.{Placed, items_of, plain_items}
 use Rattle.ax_claims.specs.Rows.{TokenRow, row_serving}
 use Rattle.ax_state.specs.Setting.{projection_at}
-use Rattle.ax_state.specs.State.{State, Shelf, shelf_at}
+use Rattle.ax_state.specs.State.{State, ProcessorState, processor_state_at}
 use Rattle.ax_values.specs.declared.cell.Cell.{Cell}
 use Rattle.ax_values.specs.declared.item.Item.{Item}
 use Rattle.ax_rules.specs.declared.cause.Cause.{Cause}
@@ -43,12 +43,12 @@ covered_items_in chain cells rows a = filter (λ x. covered_in rows (hash_of a) 
 -- ---- positions and rows, of what a processor keeps
 
 -- the item of an aggregate's first letter, where it has letters
-abbrev pub first_letter : Shelf → Name → Option ItemName
-first_letter shelf a = None
+abbrev pub first_letter : ProcessorState → Name → Option ItemName
+first_letter processor_state a = None
 
 -- the items that were dropped
-abbrev pub drops_of : Shelf → List ItemName
-drops_of shelf = []
+abbrev pub drops_of : ProcessorState → List ItemName
+drops_of processor_state = []
 
 -- the place of an item among the items, or else a count
 abbrev pub position_with : Option ItemName → List Placed → ℕ → ℕ
@@ -56,26 +56,26 @@ position_with None items count = count
 position_with (Some x) items count = place_where (λ y. same_item y.item.name x) items
 
 -- the place of the aggregate's first letter in its items, or the number of the covered ones
-abbrev pub position_in : List Upcaster → List Cell → Shelf → Name → ℕ
-position_in chain cells shelf a = position_with (first_letter shelf a) (items_of chain a cells) (length (covered_items_in chain cells shelf.rows a))
+abbrev pub position_in : List Upcaster → List Cell → ProcessorState → Name → ℕ
+position_in chain cells processor_state a = position_with (first_letter processor_state a) (items_of chain a cells) (length (covered_items_in chain cells processor_state.rows a))
 
 abbrev pub undropped : List ItemName → List Placed → List Placed
 undropped drops xs = filter (λ x. not (contains_item x.item.name drops)) xs
 
 -- the items that a row is the fold of: a prefix of the aggregate's items, less the dropped ones
-abbrev pub row_items_in : List Upcaster → List Cell → Shelf → Name → List Item
-row_items_in chain cells shelf a = plain_items (undropped (drops_of shelf) (take (position_in chain cells shelf a) (items_of chain a cells)))
+abbrev pub row_items_in : List Upcaster → List Cell → ProcessorState → Name → List Item
+row_items_in chain cells processor_state a = plain_items (undropped (drops_of processor_state) (take (position_in chain cells processor_state a) (items_of chain a cells)))
 
-abbrev pub row_in : Rules → List Upcaster → List Cell → Shelf → Name → Result Row Cause
-row_in rules chain cells shelf a = fold_items rules (row_items_in chain cells shelf a)
+abbrev pub row_in : Rules → List Upcaster → List Cell → ProcessorState → Name → Result Row Cause
+row_in rules chain cells processor_state a = fold_items rules (row_items_in chain cells processor_state a)
 
 -- ---- the same of a state
 
 abbrev pub position_of : State → ℕ → Name → ℕ
-position_of m p a = position_in m.setting.sheet.chain m.cells (shelf_at m p) a
+position_of m p a = position_in m.setting.sheet.chain m.cells (processor_state_at m p) a
 
 abbrev pub row_of : State → ℕ → Name → Result Row Cause
-row_of m p a = row_in (projection_at m.setting p) m.setting.sheet.chain m.cells (shelf_at m p) a
+row_of m p a = row_in (projection_at m.setting p) m.setting.sheet.chain m.cells (processor_state_at m p) a
 
 -- a row with its aggregate and position
 pub record Shown : Type 0 where
@@ -116,4 +116,4 @@ covers_all n (replay r c) = false
 
 -- no cell is reserved, and every part of every row covers every cell
 abbrev pub is_at_head : State → ℕ → Bool
-is_at_head m p = list_all (λ c. not (is_reserved c)) m.cells && list_all (λ r. covers_all (length m.cells) r.token) (shelf_at m p).rows
+is_at_head m p = list_all (λ c. not (is_reserved c)) m.cells && list_all (λ r. covers_all (length m.cells) r.token) (processor_state_at m p).rows

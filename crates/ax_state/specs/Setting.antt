@@ -5,9 +5,8 @@ use Rattle.ax_log.specs.Log.{option_is}
 use Rattle.ax_values.specs.Words.{same_name, place_where}
 use Rattle.ax_rules.specs.Rules.{Rules}
 use Rattle.ax_sheet.specs.Sheet.{Sheet, projection_named}
-use Rattle.ax_sheet.specs.Declarations.{AreProcessors, AreActors}
+use Rattle.ax_sheet.specs.Declarations.{AreProcessors, AreActors, Processor}
 use Rattle.ax_state.specs.Every.{option_or}
-use Rattle.ax_sheet.specs.declared.parts.Processor.{Processor}
 
 pub record Setting : Type 0 where
   pub sheet : Sheet

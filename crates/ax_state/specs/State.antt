@@ -8,7 +8,7 @@ use Rattle.ax_state.specs.Every.{option_or}
 use Rattle.ax_state.specs.Setting.{Setting, name_at}
 use Rattle.ax_values.specs.declared.cell.Cell.{Cell}
 use Rattle.ax_values.specs.declared.record.Record.{Record}
-use Rattle.ax_sheet.specs.declared.parts.Processor.{Processor}
+use Rattle.ax_sheet.specs.Declarations.{Processor}
 
 -- ---- what one actor holds
 
@@ -40,7 +40,7 @@ pub record Desk : Type 0 where
 -- ---- the state
 
 -- what one processor keeps
-pub record Shelf : Type 0 where
+pub record ProcessorState : Type 0 where
   pub rows : List TokenRow
 
 pub record State : Type 0 where
@@ -48,25 +48,25 @@ pub record State : Type 0 where
   pub clock : ℕ
   pub fence : ℕ
   pub cells : List Cell
-  pub shelves : List Shelf
+  pub processor_states : List ProcessorState
   pub desks : List Desk
 
 -- ---- parts by number
 
-abbrev pub empty_shelf : Shelf
-empty_shelf = record { rows = [] }
+abbrev pub empty_processor : ProcessorState
+empty_processor = record { rows = [] }
 
 abbrev pub empty_desk : Desk
 empty_desk = record { held = []; reservation = None; batch = None }
 
-abbrev pub shelf_at : State → ℕ → Shelf
-shelf_at m p = option_or empty_shelf (slice_get m.shelves p)
+abbrev pub processor_state_at : State → ℕ → ProcessorState
+processor_state_at m p = option_or empty_processor (slice_get m.processor_states p)
 
 abbrev pub desk_at : State → ℕ → Desk
 desk_at m actor = option_or empty_desk (slice_get m.desks actor)
 
-abbrev pub with_shelf : ℕ → Shelf → State → State
-with_shelf p shelf m = record m { shelves = slice_set m.shelves p shelf }
+abbrev pub with_state : ℕ → ProcessorState → State → State
+with_state p processor_state m = record m { processor_states = slice_set m.processor_states p processor_state }
 
 abbrev pub with_desk : ℕ → Desk → State → State
 with_desk actor desk m = record m { desks = slice_set m.desks actor desk }
@@ -78,7 +78,7 @@ abbrev pub with_fence : ℕ → State → State
 with_fence fence m = record m { fence = fence }
 
 abbrev pub with_rows : ℕ → List TokenRow → State → State
-with_rows p rows m = with_shelf p (record (shelf_at m p) { rows = rows }) m
+with_rows p rows m = with_state p (record (processor_state_at m p) { rows = rows }) m
 
 abbrev pub actor_name : State → ℕ → Name
 actor_name m actor = name_at m.setting.actors actor
@@ -86,9 +86,9 @@ actor_name m actor = name_at m.setting.actors actor
 -- ---- the starting state
 
 -- The token rows are numbered from 1 by processor, id and mask
-abbrev pub first_shelves : List Processor → ℕ → List Shelf
-first_shelves [] fence = []
-first_shelves (q ∷ qs) fence = record { rows = starting q.segments fence } ∷ first_shelves qs (fence + q.segments)
+abbrev pub first_processors : List Processor → ℕ → List ProcessorState
+first_processors [] fence = []
+first_processors (q ∷ qs) fence = record { rows = starting q.segments fence } ∷ first_processors qs (fence + q.segments)
 
 abbrev pub row_count : List Processor → ℕ
 row_count [] = 0
@@ -101,6 +101,6 @@ start setting = record {
   clock = 0;
   fence = row_count setting.processors;
   cells = [];
-  shelves = first_shelves setting.processors 1;
+  processor_states = first_processors setting.processors 1;
   desks = map (λ actor. empty_desk) setting.actors;
 }

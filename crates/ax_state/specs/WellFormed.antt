@@ -13,7 +13,7 @@ use Rattle.ax_sheet.specs.Sheet.{Sheet, command_fits}
 use Rattle.ax_claims.specs.Rows.{TokenRow}
 use Rattle.ax_state.specs.Every.{AllFrom, count}
 use Rattle.ax_state.specs.Setting.{Setting, name_at, is_projection, is_saga, projection_at}
-use Rattle.ax_state.specs.State.{State, Shelf, Desk, Batch, Reservation}
+use Rattle.ax_state.specs.State.{State, ProcessorState, Desk, Batch, Reservation}
 use Rattle.ax_state.specs.Positions.{first_letter, drops_of}
 use Rattle.ax_state.specs.Portions.{Portion, portions, put_portion, covered_by, covered_events, row_by}
 use Rattle.ax_values.specs.declared.cell.Cell.{Cell}
@@ -31,14 +31,14 @@ reserved_by now (Cell.Reserved a s w t) = t ≤ now
 reserved_by now Cell.Void = Unit {0}
 reserved_by now (Cell.Event r) = Unit {0}
 
-abbrev pub IsShelfBy : ℕ → Shelf → Type 0
-IsShelfBy now shelf = AllByRecursion (λ r. r.since ≤ now) shelf.rows
+abbrev pub IsProcessorBy : ℕ → ProcessorState → Type 0
+IsProcessorBy now processor_state = AllByRecursion (λ r. r.since ≤ now) processor_state.rows
 
 -- no moment is after the clock
-pub record IsClock (now : ℕ) (cells : List Cell) (shelves : List Shelf) : Type 0 where
+pub record IsClock (now : ℕ) (cells : List Cell) (processor_states : List ProcessorState) : Type 0 where
   pub limit : now ≤ 10 ^ 18
   pub reserved : AllByRecursion (reserved_by now) cells
-  pub kept : AllByRecursion (IsShelfBy now) shelves
+  pub kept : AllByRecursion (IsProcessorBy now) processor_states
 
 -- ---- reservations
 
@@ -122,27 +122,27 @@ pub record IsFolded (setting : Setting) (p : ℕ) (es : List Stored) (ps : List 
 abbrev pub IsOwnedRight : TokenRow → Type 0
 IsOwnedRight r = r.owner ≡ None → r.since ≡ 0
 
--- what holds of the shelf of the processor p
-pub record IsPlace (setting : Setting) (cells : List Cell) (p : ℕ) (shelf : Shelf) : Type 0 where
-  pub parts : AreParts (portions shelf.rows)
-  pub tokens : AreTokens cells (portions shelf.rows)
-  pub folded : IsFolded setting p (events cells) (portions shelf.rows) (first_letter shelf) (drops_of shelf)
-  pub gapless : IsTrue (is_saga setting p) → AllByRecursion (λ x. IsTrue (is_gapless x.token)) (portions shelf.rows)
-  pub owners : AllByRecursion IsOwnedRight shelf.rows
+-- what holds of the processor_state of the processor p
+pub record IsProcessorState (setting : Setting) (cells : List Cell) (p : ℕ) (processor_state : ProcessorState) : Type 0 where
+  pub parts : AreParts (portions processor_state.rows)
+  pub tokens : AreTokens cells (portions processor_state.rows)
+  pub folded : IsFolded setting p (events cells) (portions processor_state.rows) (first_letter processor_state) (drops_of processor_state)
+  pub gapless : IsTrue (is_saga setting p) → AllByRecursion (λ x. IsTrue (is_gapless x.token)) (portions processor_state.rows)
+  pub owners : AllByRecursion IsOwnedRight processor_state.rows
 
 -- ---- fences
 
-abbrev pub fence_count : ℕ → List Shelf → ℕ
+abbrev pub fence_count : ℕ → List ProcessorState → ℕ
 fence_count f [] = 0
 fence_count f (s ∷ ss) = count (λ r. r.fence == f) s.rows + fence_count f ss
 
-abbrev pub IsFencedShelf : ℕ → Shelf → Type 0
-IsFencedShelf fence s = AllByRecursion (λ r. (0 < r.fence) × (r.fence ≤ fence)) s.rows
+abbrev pub IsFencedProcessor : ℕ → ProcessorState → Type 0
+IsFencedProcessor fence s = AllByRecursion (λ r. (0 < r.fence) × (r.fence ≤ fence)) s.rows
 
 -- the fences of rows are distinct, above 0 and at most the counter
-pub record AreFenced (fence : ℕ) (shelves : List Shelf) : Type 0 where
-  pub distinct : (f : ℕ) → 0 < f → fence_count f shelves ≤ 1
-  pub within : AllByRecursion (IsFencedShelf fence) shelves
+pub record AreFenced (fence : ℕ) (processor_states : List ProcessorState) : Type 0 where
+  pub distinct : (f : ℕ) → 0 < f → fence_count f processor_states ≤ 1
+  pub within : AllByRecursion (IsFencedProcessor fence) processor_states
 
 -- ---- desks
 
@@ -150,12 +150,12 @@ pub record AreFenced (fence : ℕ) (shelves : List Shelf) : Type 0 where
 abbrev pub OwnsRow : Name → ℕ → Segment → ℕ → ℕ → TokenRow → Type 0
 OwnsRow actor q s fence k r = r.fence ≡ fence → (k ≡ q) × (r.segment ≡ s) × (r.owner ≡ Some actor)
 
-abbrev pub OwnsAs : Name → List Shelf → ℕ → Segment → ℕ → Type 0
-OwnsAs actor shelves q s fence = AllFrom (λ k shelf. AllByRecursion (OwnsRow actor q s fence k) shelf.rows) 0 shelves
+abbrev pub OwnsAs : Name → List ProcessorState → ℕ → Segment → ℕ → Type 0
+OwnsAs actor processor_states q s fence = AllFrom (λ k processor_state. AllByRecursion (OwnsRow actor q s fence k) processor_state.rows) 0 processor_states
 
-pub record IsSeat (fence : ℕ) (shelves : List Shelf) (actor : Name) (desk : Desk) : Type 0 where
-  pub held : AllByRecursion (λ h. (h.fence ≤ fence) × OwnsAs actor shelves h.processor h.segment h.fence) desk.held
-  pub batch : IfSome desk.batch (λ b. (b.fence ≤ fence) × OwnsAs actor shelves b.processor b.segment b.fence)
+pub record IsDeskOf (fence : ℕ) (processor_states : List ProcessorState) (actor : Name) (desk : Desk) : Type 0 where
+  pub held : AllByRecursion (λ h. (h.fence ≤ fence) × OwnsAs actor processor_states h.processor h.segment h.fence) desk.held
+  pub batch : IfSome desk.batch (λ b. (b.fence ≤ fence) × OwnsAs actor processor_states b.processor b.segment b.fence)
 
 -- ---- batches
 
@@ -183,24 +183,24 @@ pub record IsStanding (cells : List Cell) (ps : List Portion) (b : Batch) (t : T
 abbrev pub IsBatchRow : List Cell → List Portion → Batch → TokenRow → Type 0
 IsBatchRow cells ps b r = r.segment ≡ b.segment → r.fence ≡ b.fence → IsStanding cells ps b r.token
 
--- of the shelf of the processor q
-abbrev pub IsBatchAt : List Cell → Batch → ℕ → Shelf → Type 0
-IsBatchAt cells b q shelf = q ≡ b.processor → AllByRecursion (IsBatchRow cells (portions shelf.rows) b) shelf.rows
+-- of the processor_state of the processor q
+abbrev pub IsBatchAt : List Cell → Batch → ℕ → ProcessorState → Type 0
+IsBatchAt cells b q processor_state = q ≡ b.processor → AllByRecursion (IsBatchRow cells (portions processor_state.rows) b) processor_state.rows
 
-pub record IsBatchIn (setting : Setting) (cells : List Cell) (shelves : List Shelf) (b : Batch) : Type 0 where
+pub record IsBatchIn (setting : Setting) (cells : List Cell) (processor_states : List ProcessorState) (b : Batch) : Type 0 where
   pub declared : IsTrue (is_projection setting b.processor)
-  pub rows : AllFrom (IsBatchAt cells b) 0 shelves
+  pub rows : AllFrom (IsBatchAt cells b) 0 processor_states
 
 -- ---- the whole
 
 pub record IsWellFormed (m : State) : Type 0 where
   pub sheet : AreCommands m.setting.sheet
   pub log : IsOrdered m.cells
-  pub clock : IsClock m.clock m.cells m.shelves
+  pub clock : IsClock m.clock m.cells m.processor_states
   pub reserved : AreReserved m.cells m.setting.actors m.desks
-  pub places : AllFrom (IsPlace m.setting m.cells) 0 m.shelves
-  pub declared : length m.shelves ≡ length m.setting.processors
+  pub processors : AllFrom (IsProcessorState m.setting m.cells) 0 m.processor_states
+  pub declared : length m.processor_states ≡ length m.setting.processors
   pub actors : length m.desks ≡ length m.setting.actors
-  pub fences : AreFenced m.fence m.shelves
-  pub desks : AllFrom (λ k d. IsSeat m.fence m.shelves (name_at m.setting.actors k) d) 0 m.desks
-  pub batches : AllByRecursion (λ d. IfSome d.batch (IsBatchIn m.setting m.cells m.shelves)) m.desks
+  pub fences : AreFenced m.fence m.processor_states
+  pub desks : AllFrom (λ k d. IsDeskOf m.fence m.processor_states (name_at m.setting.actors k) d) 0 m.desks
+  pub batches : AllByRecursion (λ d. IfSome d.batch (IsBatchIn m.setting m.cells m.processor_states)) m.desks

@@ -1,5 +1,5 @@
 -- What a claim answers: a refusal changes nothing, and a grant leads to the state of the definition.
-use Rattle.std.proofs.Common.{◌≡◌, ℕ, suc, ◌+◌, ◌<◌, Bool, true, false, not, ◌&&◌, List, [], ◌∷◌, ◌++◌, length, Option, Some, None, Ok, Err, IsTrue, is_some, find, map, get_or, slice_get, if◌then◌else◌, refl, sym, ap, ap₂, ◌∙◌, subst, arith}
+use Rattle.std.proofs.Common.{◌≡◌, ℕ, suc, ◌+◌, ◌<◌, Bool, true, false, not, ◌&&◌, List, [], ◌∷◌, ◌++◌, length, Option, Some, None, Ok, Err, IsTrue, is_some, find, map, slice_get, if◌then◌else◌, refl, sym, ap, ap₂, ◌∙◌, subst, arith}
 use Rattle.std.proofs.lemmas.List.{length-map}
 use Rattle.ax_values.specs.Grammar.{Name}
 use Rattle.ax_values.specs.Words.{place_where}
@@ -7,21 +7,20 @@ use Rattle.ax_segments.specs.Segments.{Segment, same_segment}
 use Rattle.ax_claims.specs.Rows.{TokenRow, row_at, put_row}
 use Rattle.ax_claims.specs.Changes.{is_claimed, is_other, is_expired, owned, claimed_row, claimed as claimed_rows, IsChange}
 use Rattle.ax_claims.specs.declared.refused.Refused.{Refused}
-use Rattle.ax_claims.proofs.Places.{get-read, get-within}
+use Rattle.ax_claims.proofs.RowPlaces.{get-within}
 use Rattle.ax_state.specs.Every.{option_or}
-use Rattle.ax_state.specs.Setting.{name_at}
-use Rattle.ax_state.specs.State.{State, Shelf, Desk, Held, shelf_at, desk_at, empty_desk, empty_shelf, actor_name, with_desk, with_fence, with_rows}
+use Rattle.ax_state.specs.State.{State, ProcessorState, Desk, Held, processor_state_at, desk_at, empty_desk, empty_processor, actor_name, with_desk, with_fence, with_rows}
 use Rattle.ax_state.specs.Portions.{portions}
-use Rattle.ax_state.specs.WellFormed.{IsPlace, AreParts}
+use Rattle.ax_state.specs.WellFormed.{IsProcessorState, AreParts}
 use Rattle.ax_state.specs.Answer.{answer}
 use Rattle.ax_state.proofs.Lists.{AllFrom-get}
-use Rattle.ax_state.proofs.Puts.{portions-put}
-use Rattle.ax_world.specs.Whole.{Whole, Place, state_of, place_at}
-use Rattle.ax_world.specs.Made.{made_all}
+use Rattle.ax_state.proofs.RowPuts.{portions-put}
+use Rattle.ax_world.specs.WorldTables.{WorldTables, ProcessorTables, state_of, processor_tables_at}
+use Rattle.ax_world.specs.EditsApplied.{edits_applied}
 use Rattle.ax_world.specs.Fits.{IsWorld}
 use Rattle.ax_world.specs.Moves.{IsMove}
-use Rattle.ax_world.proofs.Moves.{unmoved, moved}
-use Rattle.ax_world.proofs.Shelves.{get-at, shelf-place, state-rows, tables-rows}
+use Rattle.ax_world.proofs.StepMoves.{unmoved, moved}
+use Rattle.ax_world.proofs.ProcessorStates.{get-at, processor_state-place, state-rows, tables-rows}
 use Rattle.ax_world.specs.declared.edit.Edit.{Edit}
 use Rattle.ax_world.specs.declared.edit.Move.{Move}
 use Rattle.ax_journal.specs.declared.reply.Reply.{Reply}
@@ -67,20 +66,20 @@ names-owned s actor now rows Refused.NoSegment h = tt
 names-owned s actor now rows (Refused.Claimed place) h = subst HasOwner (sym h.1) (claimed-owner actor h.0.owner (not (is_expired now h.0)) h.3)
 names-owned s actor now rows (Refused.Stale held found) h = tt
 
-refused-answer : (m : State) (actor p : ℕ) (s : Segment) (refused : Refused) → IsRefusal s (actor_name m actor) m.clock (shelf_at m p).rows refused
-    → claimed m actor p s (row_at s (shelf_at m p).rows) ≡ answer m (refused_reply (shelf_at m p).rows refused)
+refused-answer : (m : State) (actor p : ℕ) (s : Segment) (refused : Refused) → IsRefusal s (actor_name m actor) m.clock (processor_state_at m p).rows refused
+    → claimed m actor p s (row_at s (processor_state_at m p).rows) ≡ answer m (refused_reply (processor_state_at m p).rows refused)
 refused-answer m actor p s Refused.NoSegment h = ap (claimed m actor p s) h
 refused-answer m actor p s (Refused.Claimed place) h =
     ap (claimed m actor p s) h.2 ∙ ap (λ b. if b then answer m (claimed_reply h.0 h.0.owner) else granted m actor p s h.0) h.3 ∙ ap (λ o. answer m (found_reply o)) (sym h.1)
 refused-answer m actor p s (Refused.Stale held found) h = absurd h
 
 -- the move of a refusal
-pub refused-move : (w : Whole) (actor p : ℕ) (s : Segment) (rows : List TokenRow) (refused : Refused) (reply : Reply) → IsWorld w → rows ≡ (place_at w p).shelf.rows
+pub refused-move : (w : WorldTables) (actor p : ℕ) (s : Segment) (rows : List TokenRow) (refused : Refused) (reply : Reply) → IsWorld w → rows ≡ (processor_tables_at w p).processor_state.rows
     → IsRefusal s (actor_name (state_of w) actor) w.clock rows refused → reply ≡ refused_reply rows refused
-    → IsMove w (claimed (state_of w) actor p s (row_at s (shelf_at (state_of w) p).rows)) (record { edits = []; reply = reply; report = [] })
+    → IsMove w (claimed (state_of w) actor p s (row_at s (processor_state_at (state_of w) p).rows)) (record { edits = []; reply = reply; report = [] })
 refused-move w actor p s rows refused reply h is k r =
-    let same : rows ≡ (shelf_at (state_of w) p).rows = is ∙ ap (λ x. x.rows) (sym (shelf-place w p)) in
-    let a : claimed (state_of w) actor p s (row_at s (shelf_at (state_of w) p).rows) ≡ answer (state_of w) reply = refused-answer (state_of w) actor p s refused (subst (λ rs. IsRefusal s (actor_name (state_of w) actor) w.clock rs refused) same k) ∙ ap (answer (state_of w)) (ap (λ rs. refused_reply rs refused) (sym same) ∙ sym r) in
+    let same : rows ≡ (processor_state_at (state_of w) p).rows = is ∙ ap (λ x. x.rows) (sym (processor_state-place w p)) in
+    let a : claimed (state_of w) actor p s (row_at s (processor_state_at (state_of w) p).rows) ≡ answer (state_of w) reply = refused-answer (state_of w) actor p s refused (subst (λ rs. IsRefusal s (actor_name (state_of w) actor) w.clock rs refused) same k) ∙ ap (answer (state_of w)) (ap (λ rs. refused_reply rs refused) (sym same) ∙ sym r) in
     subst (λ x. IsMove w x (record { edits = []; reply = reply; report = [] })) (sym a) (unmoved w reply h)
 
 -- ---- grants
@@ -106,9 +105,9 @@ grant s actor now fence old new u h = by (row_at s old) refl h
         at true c h = absurd h
         at false c h = record { row = r; found = k; free = c; rows_are = h }
 
-module _ (w : Whole) (actor p : ℕ) (s : Segment) (old : Desk) (row : TokenRow) where
+module _ (w : WorldTables) (actor p : ℕ) (s : Segment) (old : Desk) (row : TokenRow) where
   abbrev after : List TokenRow
-  after = put_row (owned row (Some (actor_name (state_of w) actor)) w.clock (suc w.fence)) (place_at w p).shelf.rows
+  after = put_row (owned row (Some (actor_name (state_of w) actor)) w.clock (suc w.fence)) (processor_tables_at w p).processor_state.rows
 
   abbrev holding : Desk
   holding = record old { held = hold_fence p s (suc w.fence) old.held }
@@ -119,46 +118,43 @@ module _ (w : Whole) (actor p : ℕ) (s : Segment) (old : Desk) (row : TokenRow)
   abbrev granted_to : Desk → List TokenRow → State → State
   granted_to d rs m = with_fence (suc w.fence) (with_desk actor d (with_rows p rs m))
 
-  state-granted : slice_get w.desks actor ≡ Some old → state_of (made_all changes w) ≡ (granted (state_of w) actor p s row).state
+  state-granted : slice_get w.desks actor ≡ Some old → state_of (edits_applied changes w) ≡ (granted (state_of w) actor p s row).state
   state-granted at =
       let is : desk_at (state_of w) actor ≡ old = ap (option_or empty_desk) at in
       ap (λ (m : State). with_fence (suc w.fence) (with_desk actor holding m)) (state-rows w p after)
-      ∙ ap (λ (x : Shelf). granted_to holding (put_row (owned row (Some (actor_name (state_of w) actor)) w.clock (suc w.fence)) x.rows) (state_of w)) (sym (shelf-place w p))
-      ∙ ap (λ (d : Desk). granted_to (record d { held = hold_fence p s (suc w.fence) d.held }) (put_row (owned row (Some (actor_name (state_of w) actor)) w.clock (suc w.fence)) (shelf_at (state_of w) p).rows) (state_of w)) (sym is)
+      ∙ ap (λ (x : ProcessorState). granted_to holding (put_row (owned row (Some (actor_name (state_of w) actor)) w.clock (suc w.fence)) x.rows) (state_of w)) (sym (processor_state-place w p))
+      ∙ ap (λ (d : Desk). granted_to (record d { held = hold_fence p s (suc w.fence) d.held }) (put_row (owned row (Some (actor_name (state_of w) actor)) w.clock (suc w.fence)) (processor_state_at (state_of w) p).rows) (state_of w)) (sym is)
 
-  module _ (h : IsWorld w) (lt : p < length w.places) (found : row_at s (place_at w p).shelf.rows ≡ Some row) where
-    there : slice_get (state_of w).shelves p ≡ Some (shelf_at (state_of w) p)
-    there = let l : length (map (λ (x : Place). x.shelf) w.places) ≡ length w.places = length-map w.places (λ x. x.shelf) in get-at empty_shelf (state_of w).shelves p (omega arith)
+  module _ (h : IsWorld w) (lt : p < length w.processor_tables) (found : row_at s (processor_tables_at w p).processor_state.rows ≡ Some row) where
+    there : slice_get (state_of w).processor_states p ≡ Some (processor_state_at (state_of w) p)
+    there = let l : length (map (λ (x : ProcessorTables). x.processor_state) w.processor_tables) ≡ length w.processor_tables = length-map w.processor_tables (λ x. x.processor_state) in get-at empty_processor (state_of w).processor_states p (omega arith)
 
-    found-there : row_at s (shelf_at (state_of w) p).rows ≡ Some row
-    found-there = ap (λ (x : Shelf). row_at s x.rows) (shelf-place w p) ∙ found
+    found-there : row_at s (processor_state_at (state_of w) p).rows ≡ Some row
+    found-there = ap (λ (x : ProcessorState). row_at s x.rows) (processor_state-place w p) ∙ found
 
-    same : portions after ≡ portions (place_at w p).shelf.rows
+    same : portions after ≡ portions (processor_tables_at w p).processor_state.rows
     same =
-        let was : IsPlace w.setting w.cells p (shelf_at (state_of w) p) = AllFrom-get (IsPlace w.setting w.cells) 0 (state_of w).shelves p (shelf_at (state_of w) p) h.state.places there p (omega arith) in
-        portions-put s (place_at w p).shelf.rows row (owned row (Some (actor_name (state_of w) actor)) w.clock (suc w.fence)) (subst (λ (x : Shelf). AreParts (portions x.rows)) (shelf-place w p) was.parts) found refl
+        let was : IsProcessorState w.setting w.cells p (processor_state_at (state_of w) p) = AllFrom-get (IsProcessorState w.setting w.cells) 0 (state_of w).processor_states p (processor_state_at (state_of w) p) h.state.processors there p (omega arith) in
+        portions-put s (processor_tables_at w p).processor_state.rows row (owned row (Some (actor_name (state_of w) actor)) w.clock (suc w.fence)) (subst (λ (x : ProcessorState). AreParts (portions x.rows)) (processor_state-place w p) was.parts) found refl
 
     granted-move : slice_get w.desks actor ≡ Some old → is_claimed (actor_name (state_of w) actor) w.clock row ≡ false
-        → IsMove w (claimed (state_of w) actor p s (row_at s (shelf_at (state_of w) p).rows)) (record { edits = changes; reply = Reply.Fenced (suc w.fence); report = [] })
+        → IsMove w (claimed (state_of w) actor p s (row_at s (processor_state_at (state_of w) p).rows)) (record { edits = changes; reply = Reply.Fenced (suc w.fence); report = [] })
     granted-move at free =
-        let a : claimed (state_of w) actor p s (row_at s (shelf_at (state_of w) p).rows) ≡ granted (state_of w) actor p s row =
+        let a : claimed (state_of w) actor p s (row_at s (processor_state_at (state_of w) p).rows) ≡ granted (state_of w) actor p s row =
         ap (claimed (state_of w) actor p s) found-there ∙ ap (λ b. if b then answer (state_of w) (claimed_reply row row.owner) else granted (state_of w) actor p s row) free
         in
         subst (λ x. IsMove w x (record { edits = changes; reply = Reply.Fenced (suc w.fence); report = [] })) (sym a)
         (moved w changes (granted (state_of w) actor p s row) (Reply.Fenced (suc w.fence)) h (omega arith) (lt, (get-within w.desks actor old at, (tt, tt))) (state-granted at)
-        (kept-granted (state_of w) actor p s (shelf_at (state_of w) p) row there found-there h.state) refl (tables-rows w p after lt same h.tables) refl refl)
+        (kept-granted (state_of w) actor p s (processor_state_at (state_of w) p) row there found-there h.state) refl (tables-rows w p after lt same h.tables) refl refl)
 
 pub three : {A : Type 0} (a b c d : List A) (x y z : A) → a ≡ [] → b ≡ a ++ x ∷ [] → c ≡ b ++ y ∷ [] → d ≡ c ++ z ∷ [] → d ≡ x ∷ y ∷ z ∷ []
 three a b c d x y z h i j k = k ∙ ap (λ xs. xs ++ z ∷ []) (j ∙ ap (λ xs. xs ++ y ∷ []) (i ∙ ap (λ xs. xs ++ x ∷ []) h))
 
-pub claim-move : (w : Whole) (actor p : ℕ) (s : Segment) (now fence : ℕ) (owner : Name) (old new : List TokenRow) (was desk : Desk) (held : List Held) (move : Move) → IsWorld w → p < length w.places
-    → now ≡ w.clock → fence ≡ w.fence + 1 → owner ≡ actor_name (state_of w) actor → old ≡ (place_at w p).shelf.rows → IsGrant owner now fence s old new → slice_get w.desks actor ≡ Some was
+pub claim-move : (w : WorldTables) (actor p : ℕ) (s : Segment) (now fence : ℕ) (owner : Name) (old new : List TokenRow) (was desk : Desk) (held : List Held) (move : Move) → IsWorld w → p < length w.processor_tables
+    → now ≡ w.clock → fence ≡ w.fence + 1 → owner ≡ actor_name (state_of w) actor → old ≡ (processor_tables_at w p).processor_state.rows → IsGrant owner now fence s old new → slice_get w.desks actor ≡ Some was
     → held ≡ hold_fence p s fence was.held → desk ≡ record was { held = held } → move ≡ record { edits = Edit.SetRows p new ∷ Edit.SetDesk actor desk ∷ Edit.Fence fence ∷ []; reply = Reply.Fenced fence; report = [] }
-    → IsMove w (claimed (state_of w) actor p s (row_at s (shelf_at (state_of w) p).rows)) move
+    → IsMove w (claimed (state_of w) actor p s (row_at s (processor_state_at (state_of w) p).rows)) move
 claim-move w actor p s now fence owner old new was desk held move h lt clock next name rows g at held_is desk_is is =
     let succ : fence ≡ suc w.fence = omega (arith, next) in
     rw (is, desk_is, held_is, g.rows_are, name, clock, rows, succ)
     (granted-move w actor p s was g.row h lt (ap (row_at s) (sym rows) ∙ g.found) at (ap₂ (λ n t. is_claimed n t g.row) (sym name) (sym clock) ∙ g.free))
-
-pub named : (names read_from : List Name) (k : ℕ) (owner read : Name) → k < length names → owner ≡ read → read ≡ get_or read_from k read → read_from ≡ names → owner ≡ name_at names k
-named names read_from k owner read lt e h same = e ∙ sym (ap (option_or []) (get-read names k read lt (h ∙ ap (λ ns. get_or ns k read) same)))

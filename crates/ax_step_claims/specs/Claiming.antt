@@ -5,13 +5,13 @@ use Rattle.ax_segments.specs.Segments.{Segment}
 use Rattle.ax_claims.specs.Rows.{TokenRow, row_at, put_row}
 use Rattle.ax_claims.specs.Changes.{is_claimed, owned}
 use Rattle.ax_state.specs.Setting.{processor_number}
-use Rattle.ax_state.specs.State.{State, Held, desk_at, shelf_at, with_desk, with_rows, with_fence, actor_name}
+use Rattle.ax_state.specs.State.{State, Held, desk_at, processor_state_at, with_desk, with_rows, with_fence, actor_name}
 use Rattle.ax_state.specs.Holding.{is_held_at}
 use Rattle.ax_state.specs.Answer.{Answer, answer}
 use Rattle.ax_claims.specs.declared.refused.Refused.{Refused}
 use Rattle.ax_journal.specs.declared.order.Order.{Order}
 use Rattle.ax_journal.specs.declared.reply.Reply.{Reply}
-use Rattle.ax_sheet.specs.declared.parts.Processor.{Processor}
+use Rattle.ax_sheet.specs.Declarations.{Processor}
 
 abbrev pub claimed_reply : TokenRow → Option Name → Reply
 claimed_reply r None = Reply.Claimed [] r.since
@@ -33,14 +33,14 @@ with_held actor hs m = with_desk actor (record (desk_at m actor) { held = hs }) 
 -- the row with a fresh fence and the actor as its owner, and the fence on the actor's desk
 abbrev pub granted : State → ℕ → ℕ → Segment → TokenRow → Answer
 granted m actor p s r =
-    answer (with_fence (suc m.fence) (with_held actor (hold_fence p s (suc m.fence) (desk_at m actor).held) (with_rows p (put_row (owned r (Some (actor_name m actor)) m.clock (suc m.fence)) (shelf_at m p).rows) m))) (Reply.Fenced (suc m.fence))
+    answer (with_fence (suc m.fence) (with_held actor (hold_fence p s (suc m.fence) (desk_at m actor).held) (with_rows p (put_row (owned r (Some (actor_name m actor)) m.clock (suc m.fence)) (processor_state_at m p).rows) m))) (Reply.Fenced (suc m.fence))
 
 abbrev pub claimed : State → ℕ → ℕ → Segment → Option TokenRow → Answer
 claimed m actor p s None = answer m Reply.NoSegment
 claimed m actor p s (Some r) = if is_claimed (actor_name m actor) m.clock r then answer m (claimed_reply r r.owner) else granted m actor p s r
 
 abbrev pub claim : State → ℕ → Name → Segment → Answer
-claim m actor name s = claimed m actor (processor_number m.setting.processors name) s (row_at s (shelf_at m (processor_number m.setting.processors name)).rows)
+claim m actor name s = claimed m actor (processor_number m.setting.processors name) s (row_at s (processor_state_at m (processor_number m.setting.processors name)).rows)
 
 -- ---- refusals
 

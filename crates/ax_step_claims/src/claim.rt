@@ -1,7 +1,7 @@
 ghost use Rattle.std.specs.Prelude.{◌≡◌, ◌^◌, ◌<◌, length, IfOk};
 ghost use Rattle.ax_claims.specs.Rows.{row_at};
-ghost use Rattle.ax_state.specs.State.{shelf_at};
-ghost use Rattle.ax_world.specs.Whole.{state_of};
+ghost use Rattle.ax_state.specs.State.{processor_state_at};
+ghost use Rattle.ax_world.specs.WorldTables.{state_of};
 ghost use Rattle.ax_world.specs.Moves.{IsMove};
 ghost use Rattle.ax_step_claims.specs.Claiming.{claimed};
 
@@ -21,14 +21,14 @@ pub(crate) fn claim_segment(
     processor: u32,
     segment: Segment,
 ) -> Result<Move, NoMemory>
-    requires processor { processor < length world.now.whole.setting.processors }
-    requires actor { actor < length world.now.whole.setting.actors }
-    requires fence { world.now.whole.fence < 2 ^ 63 }
-    ensures { IfOk result (IsMove world.now.whole (claimed (state_of world.now.whole) actor processor segment (row_at segment (shelf_at (state_of world.now.whole) processor).rows))) }
+    requires processor { processor < length world.now.tables.setting.processors }
+    requires actor { actor < length world.now.tables.setting.actors }
+    requires fence { world.now.tables.fence < 2 ^ 63 }
+    ensures { IfOk result (IsMove world.now.tables (claimed (state_of world.now.tables) actor processor segment (row_at segment (processor_state_at (state_of world.now.tables) processor).rows))) }
 {
     let now = world.clock();
     let fence = world.fence() + 1;
-    let owner = world.actors().parts()[actor as usize].copy(alloc)?;
+    let owner = world.actor_name(actor).copy(alloc)?;
     let mut rows = world.rows(processor).copy(alloc)?;
     if let Err((refused, _owner)) = rows.claim(segment, owner, now, fence) {
         let reply = refused_reply(alloc, rows.rows(), refused)?;

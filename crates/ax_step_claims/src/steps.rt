@@ -1,5 +1,5 @@
 ghost use Rattle.std.specs.Prelude.{◌≡◌, ◌^◌, ◌<◌, length, IfOk};
-ghost use Rattle.ax_world.specs.Whole.{state_of};
+ghost use Rattle.ax_world.specs.WorldTables.{state_of};
 ghost use Rattle.ax_world.specs.Moves.{IsMove};
 ghost use Rattle.ax_step_claims.specs.Claiming.{IsClaiming, IsDeclared, step};
 
@@ -13,10 +13,10 @@ use std::alloc::Global;
 /// exactly where it has another owner whose claim was made or extended at most 10,000 ms ago.
 pub fn step(alloc: Global, world: &World, actor: u32, order: &Order) -> Result<Move, NoMemory>
     requires kind { IsClaiming order.now }
-    requires processor { IsDeclared world.now.whole.setting.processors order.now }
-    requires actor { actor < length world.now.whole.setting.actors }
-    requires fence { world.now.whole.fence < 2 ^ 63 }
-    ensures { IfOk result (IsMove world.now.whole (step (state_of world.now.whole) actor order.now)) }
+    requires processor { IsDeclared world.now.tables.setting.processors order.now }
+    requires actor { actor < length world.now.tables.setting.actors }
+    requires fence { world.now.tables.fence < 2 ^ 63 }
+    ensures { IfOk result (IsMove world.now.tables (step (state_of world.now.tables) actor order.now)) }
 {
     match order {
         Order::Claim { processor, segment } => {
@@ -24,7 +24,7 @@ pub fn step(alloc: Global, world: &World, actor: u32, order: &Order) -> Result<M
             claim_segment(alloc, world, actor, processor, *segment)
         }
         _ => {
-            let _ = world.clock();
+            world.facts();
             Ok(Move::without_edits(alloc, Reply::Done))
         }
     }

@@ -12,12 +12,12 @@ use Rattle.ax_log.specs.Order.{IsOrdered, IsReservedRight, max_cells}
 use Rattle.ax_log.specs.Puts.{CanPutAll, puts_at}
 use Rattle.ax_log.specs.Answers.{AreOf, aggregate_of, number_of, IsKeptFor, TakesKept, first_void, void_among}
 use Rattle.ax_log.proofs.Append.{can_append}
-use Rattle.ax_log.proofs.Made.{put_all-puts_at, IsOrdered-put_all}
+use Rattle.ax_log.proofs.CellsMade.{put_all-puts_at, IsOrdered-put_all}
 use Rattle.ax_state.specs.Every.{AllFrom, option_or}
 use Rattle.ax_state.specs.Setting.{name_at}
 use Rattle.ax_state.specs.State.{State, Desk, Reservation, desk_at, empty_desk, with_cells}
 use Rattle.ax_state.specs.Answer.{answer}
-use Rattle.ax_state.specs.WellFormed.{IsWellFormed, IsPlace, IsBatchIn, IsReservation, IsHeldCell, HoldsCells, holds_cell}
+use Rattle.ax_state.specs.WellFormed.{IsWellFormed, IsProcessorState, IsBatchIn, IsReservation, IsHeldCell, HoldsCells, holds_cell}
 use Rattle.ax_state.proofs.Lists.{All-map, AllFrom-map, AllFrom-get, AllFrom-others, same-place}
 use Rattle.ax_state.proofs.Desks.{kept-unreserved}
 use Rattle.ax_state.proofs.Grow.{Grows, held-within, ordered-grows, kept-grown}
@@ -180,13 +180,13 @@ kept-taken m actor d r t h = record {
   log = ordered-taken m actor d r t h;
   clock = record { limit = h.clock.limit; reserved = fills-reserved_by (Own a) m.clock m.cells later g h.clock.reserved; kept = h.clock.kept };
   reserved = record { each = each; apart = emptied.reserved.apart };
-  places = AllFrom-map (IsPlace m.setting m.cells) (IsPlace m.setting later) (place-fills m.setting a r.first r.records m.cells f) 0 m.shelves h.places;
+  processors = AllFrom-map (IsProcessorState m.setting m.cells) (IsProcessorState m.setting later) (place-fills m.setting a r.first r.records m.cells f) 0 m.processor_states h.processors;
   declared = h.declared;
   actors = emptied.actors;
   fences = h.fences;
   desks = emptied.desks;
-  batches = All-map (λ x. IfSome x.batch (IsBatchIn m.setting m.cells m.shelves)) (λ x. IfSome x.batch (IsBatchIn m.setting later m.shelves))
-      (λ x b. batch-fills m.setting a r.first r.records m.cells f m.shelves h.places x.batch b) (slice_set m.desks actor desk) emptied.batches;
+  batches = All-map (λ x. IfSome x.batch (IsBatchIn m.setting m.cells m.processor_states)) (λ x. IfSome x.batch (IsBatchIn m.setting later m.processor_states))
+      (λ x b. batch-fills m.setting a r.first r.records m.cells f m.processor_states h.processors x.batch b) (slice_set m.desks actor desk) emptied.batches;
 }
   where
     a : Name

@@ -7,21 +7,21 @@ use Rattle.ax_values.specs.Grammar.{Name}
 use Rattle.ax_log.specs.Log.{Stored, events, length_of, put_cells}
 use Rattle.ax_log.specs.Puts.{CanPutAll, put_all, puts_at}
 use Rattle.ax_log.specs.Answers.{HasCells, GoesOn, IsConflict, aggregate_of, void_among}
-use Rattle.ax_log.proofs.Made.{put_all-puts_at}
+use Rattle.ax_log.proofs.CellsMade.{put_all-puts_at}
 use Rattle.ax_state.specs.Every.{AllFrom}
 use Rattle.ax_state.specs.Setting.{Setting, name_at}
 use Rattle.ax_state.specs.State.{Desk, Reservation, with_cells}
 use Rattle.ax_state.specs.Answer.{Answer, answer}
 use Rattle.ax_state.specs.Portions.{portions, covered_events}
-use Rattle.ax_state.specs.WellFormed.{IsPlace, IsReservation}
+use Rattle.ax_state.specs.WellFormed.{IsProcessorState, IsReservation}
 use Rattle.ax_state.proofs.Fill.{Own, Fills, IsFill, fills-put, fills-covered}
-use Rattle.ax_world.specs.Whole.{Whole, Place, state_of}
-use Rattle.ax_world.specs.Made.{made_all}
+use Rattle.ax_world.specs.WorldTables.{WorldTables, ProcessorTables, state_of}
+use Rattle.ax_world.specs.EditsApplied.{edits_applied}
 use Rattle.ax_world.specs.Fits.{IsWorld, IsTable}
 use Rattle.ax_world.specs.Moves.{IsMove}
-use Rattle.ax_world.proofs.Moves.{moved, tables-kept}
+use Rattle.ax_world.proofs.StepMoves.{moved, tables-kept}
 use Rattle.ax_step_log.specs.Logging.{appended_unless, with_reservation, released}
-use Rattle.ax_step_log.specs.Made.{release_puts, void_puts}
+use Rattle.ax_step_log.specs.SendParts.{release_puts, void_puts}
 use Rattle.ax_step_log.proofs.Releases.{put-release, can-release, events-released}
 use Rattle.ax_step_log.proofs.AppendKept.{IsTaken, holds, within-held, number-held, takes-held, fill-taken, kept-taken, kept-released}
 use Rattle.ax_step_log.proofs.Sends.{desk-is}
@@ -34,7 +34,7 @@ use Rattle.ax_world.specs.declared.edit.Edit.{Edit}
 -- ---- the reservation of a desk
 
 -- a desk's reservation, if any, has its cells in the log
-pub older-within : (w : Whole) (actor : ℕ) (d : Desk) → IsWorld w → slice_get w.desks actor ≡ Some d → IfSome d.reservation (λ r. r.first + length r.records ≤ length w.cells)
+pub older-within : (w : WorldTables) (actor : ℕ) (d : Desk) → IsWorld w → slice_get w.desks actor ≡ Some d → IfSome d.reservation (λ r. r.first + length r.records ≤ length w.cells)
 older-within w actor d h e = at d.reservation refl
   where
     at : (o : Option Reservation) → d.reservation ≡ o → IfSome o (λ r. r.first + length r.records ≤ length w.cells)
@@ -44,19 +44,19 @@ older-within w actor d h e = at d.reservation refl
 -- ---- both ends
 
 -- the edits that put cells, and empty the reservation of the desk
-state-emptied : (w : Whole) (actor : ℕ) (puts : List CellPut) (later : List Cell) (old new : Desk) → slice_get w.desks actor ≡ Some old → put_all puts w.cells ≡ later → new ≡ record old { reservation = None }
-    → state_of (made_all (Edit.Cells puts ∷ Edit.SetDesk actor new ∷ []) w) ≡ with_reservation actor None (with_cells later (state_of w))
+state-emptied : (w : WorldTables) (actor : ℕ) (puts : List CellPut) (later : List Cell) (old new : Desk) → slice_get w.desks actor ≡ Some old → put_all puts w.cells ≡ later → new ≡ record old { reservation = None }
+    → state_of (edits_applied (Edit.Cells puts ∷ Edit.SetDesk actor new ∷ []) w) ≡ with_reservation actor None (with_cells later (state_of w))
 state-emptied w actor puts later old new desk cells new_is =
     ap₂ (λ (cs : List Cell) (d : Desk). record (state_of w) { cells = cs; desks = slice_set w.desks actor d }) cells (new_is ∙ ap (λ (d : Desk). record d { reservation = None }) (sym (desk-is w actor old desk)))
 
 -- ---- the events are in the log
 
-covered-taken : (setting : Setting) (a : Name) (cells later : List Cell) → Fills (Own a) cells later → (n : ℕ) (xs : List Place) → AllFrom (IsPlace setting cells) n (map (λ x. x.shelf) xs)
-    → AllFrom (λ q x. covered_events (portions x.shelf.rows) (events later) ≡ covered_events (portions x.shelf.rows) (events cells)) n xs
+covered-taken : (setting : Setting) (a : Name) (cells later : List Cell) → Fills (Own a) cells later → (n : ℕ) (xs : List ProcessorTables) → AllFrom (IsProcessorState setting cells) n (map (λ x. x.processor_state) xs)
+    → AllFrom (λ q x. covered_events (portions x.processor_state.rows) (events later) ≡ covered_events (portions x.processor_state.rows) (events cells)) n xs
 covered-taken setting a cells later f n [] h = tt
-covered-taken setting a cells later f n (x ∷ xs) h = (fills-covered (Own a) cells later (portions x.shelf.rows) f h.0.tokens, covered-taken setting a cells later f (suc n) xs h.1)
+covered-taken setting a cells later f n (x ∷ xs) h = (fills-covered (Own a) cells later (portions x.processor_state.rows) f h.0.tokens, covered-taken setting a cells later f (suc n) xs h.1)
 
-pub move-taken : (w : Whole) (actor : ℕ) (r : Reservation) (seq count : ℕ) (puts : List CellPut) (old new : Desk) → IsWorld w → slice_get w.desks actor ≡ Some old → old.reservation ≡ Some r → GoesOn w.cells r.first r.records
+pub move-taken : (w : WorldTables) (actor : ℕ) (r : Reservation) (seq count : ℕ) (puts : List CellPut) (old new : Desk) → IsWorld w → slice_get w.desks actor ≡ Some old → old.reservation ≡ Some r → GoesOn w.cells r.first r.records
     → puts ≡ puts_at r.first (map Cell.Event r.records) → CanPutAll w.cells puts → new ≡ record old { reservation = None } → seq ≡ r.first_seq → count ≡ length r.records
     → IsMove w (appended_unless (state_of w) actor r (void_among w.cells r.first r.records)) (record { edits = Edit.Cells puts ∷ Edit.SetDesk actor new ∷ []; reply = Reply.Appended seq count; report = [] })
 move-taken w actor r seq count puts old new h desk has goes puts_are can new_is seq_is count_is =
@@ -93,14 +93,14 @@ move-taken w actor r seq count puts old new h desk has goes puts_are can new_is 
     fill : IsFill (aggregate_of r.records) r.first r.records w.cells
     fill = fill-taken (state_of w) actor old r taken h.state
 
-    tables : AllFrom (IsTable w.setting (events (put_all puts w.cells))) 0 w.places
-    tables = subst (λ (cs : List Cell). AllFrom (IsTable w.setting (events cs)) 0 w.places) (sym cells)
-        (tables-kept w.setting (events w.cells) (events later) 0 w.places
-        (covered-taken w.setting (aggregate_of r.records) w.cells later (fills-put (Own (aggregate_of r.records)) r.first r.records w.cells fill.ready fill.own) 0 w.places h.state.places) h.tables)
+    tables : AllFrom (IsTable w.setting (events (put_all puts w.cells))) 0 w.processor_tables
+    tables = subst (λ (cs : List Cell). AllFrom (IsTable w.setting (events cs)) 0 w.processor_tables) (sym cells)
+        (tables-kept w.setting (events w.cells) (events later) 0 w.processor_tables
+        (covered-taken w.setting (aggregate_of r.records) w.cells later (fills-put (Own (aggregate_of r.records)) r.first r.records w.cells fill.ready fill.own) 0 w.processor_tables h.state.processors) h.tables)
 
 -- ---- a conflict
 
-pub move-conflict : (w : Whole) (actor : ℕ) (r : Reservation) (expected found told_first told_length : ℕ) (puts : List CellPut) (old new : Desk) → IsWorld w → slice_get w.desks actor ≡ Some old → old.reservation ≡ Some r
+pub move-conflict : (w : WorldTables) (actor : ℕ) (r : Reservation) (expected found told_first told_length : ℕ) (puts : List CellPut) (old new : Desk) → IsWorld w → slice_get w.desks actor ≡ Some old → old.reservation ≡ Some r
     → IsConflict w.cells r.first r.records expected found → puts ≡ release_puts w.cells (Some r) → new ≡ record old { reservation = None } → told_first ≡ expected → told_length ≡ found
     → IsMove w (appended_unless (state_of w) actor r (void_among w.cells r.first r.records)) (record { edits = Edit.Cells puts ∷ Edit.SetDesk actor new ∷ []; reply = Reply.Conflict told_first told_length; report = [] })
 move-conflict w actor r expected found told_first told_length puts old new h desk has conflict puts_are new_is first_is length_is =
@@ -126,8 +126,8 @@ move-conflict w actor r expected found told_first told_length puts old new h des
     cells : put_all puts w.cells ≡ released (Some r) w.cells
     cells = ap (λ (ps : List CellPut). put_all ps w.cells) puts_are ∙ put-release (Some r) w.cells
 
-    tables : AllFrom (IsTable w.setting (events (put_all puts w.cells))) 0 w.places
-    tables = subst (λ (xs : List Stored). AllFrom (IsTable w.setting xs) 0 w.places) (sym (ap (λ (cs : List Cell). events cs) cells ∙ events-released (Some r) w.cells)) h.tables
+    tables : AllFrom (IsTable w.setting (events (put_all puts w.cells))) 0 w.processor_tables
+    tables = subst (λ (xs : List Stored). AllFrom (IsTable w.setting xs) 0 w.processor_tables) (sym (ap (λ (cs : List Cell). events cs) cells ∙ events-released (Some r) w.cells)) h.tables
 
 -- what is said of the cells and records that were passed is said of those that are meant
 pub passed : (P : List Cell → ℕ → List Record → Type 0) (cells later : List Cell) (first place : ℕ) (rs records : List Record) → cells ≡ later → first ≡ place → rs ≡ records → P cells first rs → P later place records

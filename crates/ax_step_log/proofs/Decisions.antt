@@ -8,22 +8,21 @@ use Rattle.std.proofs.lemmas.List.{length-map}
 use Rattle.std.proofs.lemmas.Bool.Decides.{nat_tests}
 use Rattle.ax_values.specs.Grammar.{Name}
 use Rattle.ax_values.specs.Words.{Payload, field_cmp, put_rising, same_name}
-use Rattle.ax_values.proofs.Options.{both, and-true}
+use Rattle.ax_laws.proofs.Tests.{both, and-true}
 use Rattle.ax_rules.specs.Expr.{Row}
 use Rattle.ax_rules.specs.Guards.{guard_fits}
 use Rattle.ax_upcast.specs.Upcast.{put_found, put_given, given_value, event_of_template}
-use Rattle.ax_sheet.specs.Sheet.{Sheet, command_named, command_fits, are_parts, fits_record, first_failing}
+use Rattle.ax_sheet.specs.Sheet.{Sheet, command_named, command_fits, are_parts, fits_record, first_failing, NamedCommand}
+use Rattle.ax_sheet.specs.Commands.{Command}
 use Rattle.ax_sheet.specs.Decision.{decided_by, decision}
 use Rattle.ax_log.specs.Order.{max_fields}
 use Rattle.ax_state.specs.WellFormed.{AreCommands}
-use Rattle.ax_step_log.specs.Made.{few_fields, EventsFit, DecidedFits}
+use Rattle.ax_step_log.specs.SendParts.{few_fields, EventsFit, DecidedFits}
 use Rattle.ax_values.specs.declared.value.Field.{Field}
 use Rattle.ax_values.specs.declared.value.Value.{Value}
 use Rattle.ax_upcast.specs.declared.event.Event.{Event}
 use Rattle.ax_upcast.specs.declared.event.Template.{Template}
 use Rattle.ax_upcast.specs.declared.event.GivenField.{GivenField}
-use Rattle.ax_sheet.specs.declared.parts.Command.{Command}
-use Rattle.ax_sheet.specs.declared.parts.NamedCommand.{NamedCommand}
 use Rattle.ax_sheet.specs.declared.decision.Decided.{Decided}
 
 -- ---- the fields of an event

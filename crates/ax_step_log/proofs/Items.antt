@@ -10,10 +10,11 @@ use Rattle.ax_rules.specs.Rules.{Rules, start_row, lenient, lenient_from}
 use Rattle.ax_upcast.specs.Upcast.{upcast}
 use Rattle.ax_projections.specs.Items.{Placed, placed, placed_items, items_of, plain_items}
 use Rattle.ax_projections.proofs.RowLaws.{lenient-append}
-use Rattle.ax_step_log.specs.Made.{found_items, listed_items}
+use Rattle.ax_step_log.specs.SendParts.{found_items, listed_items}
 use Rattle.ax_values.specs.declared.cell.Cell.{Cell}
 use Rattle.ax_values.specs.declared.item.Item.{Item}
 use Rattle.ax_upcast.specs.declared.upcaster.Upcaster.{Upcaster}
+use Rattle.ax_projections.proofs.RebuildLaws.{plain-placed}
 
 -- the event is that of the cell at its index
 abbrev pub StandsIn : List Cell → Stored → Type 0
@@ -22,10 +23,6 @@ StandsIn cells e = slice_get cells e.index ≡ Some (Cell.Event e.record_of)
 all-stand : (cells : List Cell) (es : List Stored) → ((k : ℕ) (e : Stored) → slice_get es k ≡ Some e → StandsIn cells e) → AllByRecursion (StandsIn cells) es
 all-stand cells [] h = tt
 all-stand cells (e ∷ es) h = (h 0 e refl, all-stand cells es (λ k x g. h (suc k) x g))
-
-plain-placed : (i : ℕ) (xs : List Item) → plain_items (map (placed i) xs) ≡ xs
-plain-placed i [] = refl
-plain-placed i (x ∷ xs) = ap (λ ys. x ∷ ys) (plain-placed i xs)
 
 listed : (chain : List Upcaster) (cells : List Cell) (es : List Stored) → AllByRecursion (StandsIn cells) es → listed_items chain cells (map (λ e. e.index) es) ≡ plain_items (flat_map (placed_items chain) es)
 listed chain cells [] h = refl

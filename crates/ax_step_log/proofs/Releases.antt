@@ -5,13 +5,13 @@ use Rattle.ax_values.specs.Grammar.{Name}
 use Rattle.ax_log.specs.Log.{Stored, events, stream_in, length_of, is_reserved, option_is, put_at}
 use Rattle.ax_log.specs.Order.{IsOrdered, max_cells}
 use Rattle.ax_log.specs.Puts.{CanPut, CanPutAll, put_all, puts_at}
-use Rattle.ax_log.proofs.Puts.{put, put_at-put, get-other}
+use Rattle.ax_log.proofs.CellPutLaws.{put, put_at-put, get-other}
 use Rattle.ax_log.proofs.Order.{can_void, can_reserve}
-use Rattle.ax_log.proofs.Made.{put_all-puts_at, put_cells-end, put_all-append, CanPutAll-append, IsOrdered-put_all}
+use Rattle.ax_log.proofs.CellsMade.{put_all-puts_at, put_cells-end, put_all-append, CanPutAll-append, IsOrdered-put_all}
 use Rattle.ax_state.specs.State.{Reservation}
 use Rattle.ax_state.proofs.Grow.{grows-events}
 use Rattle.ax_step_log.specs.Logging.{void_from, released}
-use Rattle.ax_step_log.specs.Made.{void_puts, release_puts, puts_number}
+use Rattle.ax_step_log.specs.SendParts.{void_puts, release_puts, puts_number}
 use Rattle.ax_step_log.proofs.Released.{grows-released, length-released}
 use Rattle.ax_values.specs.declared.cell.Cell.{Cell}
 use Rattle.ax_log.specs.declared.put.CellPut.{CellPut}

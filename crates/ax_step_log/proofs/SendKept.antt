@@ -7,12 +7,13 @@ use Rattle.std.proofs.lemmas.Bool.Decides.{nat_tests}
 use borrow.Author.Tests.{ltb-true, ltb-false}
 use Rattle.ax_values.specs.Grammar.{Name}
 use Rattle.ax_values.specs.Words.{Payload}
-use Rattle.ax_values.proofs.Options.{both, and-true}
+use Rattle.ax_laws.proofs.Tests.{both, and-true}
 use Rattle.ax_log.specs.Log.{length_of}
 use Rattle.ax_log.specs.Order.{max_cells, has_few_fields}
 use Rattle.ax_log.specs.Answers.{AreOf, aggregate_of}
 use Rattle.ax_log.proofs.Order.{IsQuiet}
 use Rattle.ax_sheet.specs.Sheet.{command_named}
+use Rattle.ax_sheet.specs.Commands.{Command}
 use Rattle.ax_sheet.specs.Decision.{decision}
 use Rattle.ax_state.specs.Every.{AllFrom, count, one}
 use Rattle.ax_state.specs.Setting.{name_at}
@@ -24,12 +25,11 @@ use Rattle.ax_state.proofs.Lists.{AllFrom-set, count-set, count-none}
 use Rattle.ax_state.proofs.Desks.{kept-reservation}
 use Rattle.ax_state.proofs.Grow.{Grows, held-within, grows-append, ordered-grows, kept-grown}
 use Rattle.ax_step_log.specs.Logging.{send, sent_by, sent_decided, sent_events, with_reservation, released, reserved_cells, reservation_of, as_records}
-use Rattle.ax_step_log.specs.Made.{EventsFit, few_fields}
+use Rattle.ax_step_log.specs.SendParts.{EventsFit, few_fields}
 use Rattle.ax_step_log.proofs.Decisions.{decision-fits, command-fits}
 use Rattle.ax_step_log.proofs.Released.{grows-released, length-released, reserved-released}
 use Rattle.ax_values.specs.declared.cell.Cell.{Cell}
 use Rattle.ax_upcast.specs.declared.event.Event.{Event}
-use Rattle.ax_sheet.specs.declared.parts.Command.{Command}
 use Rattle.ax_sheet.specs.declared.decision.Decided.{Decided}
 use Rattle.ax_journal.specs.declared.reply.Reply.{Reply}
 

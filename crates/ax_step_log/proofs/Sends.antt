@@ -11,13 +11,13 @@ use Rattle.ax_state.specs.Every.{AllFrom, option_or}
 use Rattle.ax_state.specs.State.{Desk, Reservation, desk_at, empty_desk, actor_name, with_cells}
 use Rattle.ax_state.specs.Answer.{Answer, answer}
 use Rattle.ax_state.proofs.Grow.{grows-append, grows-events}
-use Rattle.ax_world.specs.Whole.{Whole, state_of}
-use Rattle.ax_world.specs.Made.{made_all}
+use Rattle.ax_world.specs.WorldTables.{WorldTables, state_of}
+use Rattle.ax_world.specs.EditsApplied.{edits_applied}
 use Rattle.ax_world.specs.Fits.{IsWorld, IsTable}
 use Rattle.ax_world.specs.Moves.{IsMove}
-use Rattle.ax_world.proofs.Moves.{moved}
+use Rattle.ax_world.proofs.StepMoves.{moved}
 use Rattle.ax_step_log.specs.Logging.{sent_events, with_reservation, released, reserved_cells, reservation_of, as_records}
-use Rattle.ax_step_log.specs.Made.{EventsFit, release_puts, puts_number}
+use Rattle.ax_step_log.specs.SendParts.{EventsFit, release_puts, puts_number}
 use Rattle.ax_step_log.proofs.Released.{grows-released}
 use Rattle.ax_step_log.proofs.Releases.{put-reserve, can-reserve, first-put}
 use Rattle.ax_step_log.proofs.SendKept.{kept-reserved, quiet-replicate}
@@ -27,14 +27,9 @@ use Rattle.ax_log.specs.declared.put.CellPut.{CellPut}
 use Rattle.ax_upcast.specs.declared.event.Event.{Event}
 use Rattle.ax_journal.specs.declared.reply.Reply.{Reply}
 use Rattle.ax_world.specs.declared.edit.Edit.{Edit}
+use Rattle.ax_laws.proofs.Lists.{length-filter}
 
 -- ---- how long a stream is
-
-length-filter : (t : Stored → Bool) (xs : List Stored) → length (filter t xs) ≤ length xs
-length-filter t [] = omega arith
-length-filter t (x ∷ xs) =
-    let ih : length (filter t xs) ≤ length xs = length-filter t xs in
-    elim (t x) as (λ b. length (if b then x ∷ filter t xs else filter t xs) ≤ suc (length xs)) [ true ↦ omega arith | false ↦ omega arith ]
 
 length-events : (k : ℕ) (cells : List Cell) → length (events_from k cells) ≤ length cells
 length-events k [] = omega arith
@@ -49,25 +44,25 @@ stream-within a cells =
 
 -- ---- a send
 
-abbrev pub new_cells : Whole → ℕ → Name → ℕ → List Cell
+abbrev pub new_cells : WorldTables → ℕ → Name → ℕ → List Cell
 new_cells w actor a n = replicate n (Cell.Reserved a (length_of a w.cells) (actor_name (state_of w) actor) w.clock)
 
 -- what it puts, and on which desk
-pub record IsSend (w : Whole) (actor : ℕ) (a : Name) (es : List Event) (puts : List CellPut) (old new : Desk) : Type 0 where
+pub record IsSend (w : WorldTables) (actor : ℕ) (a : Name) (es : List Event) (puts : List CellPut) (old new : Desk) : Type 0 where
   pub desk : slice_get w.desks actor ≡ Some old
   pub room : length w.cells + length es ≤ max_cells
   pub puts_are : puts ≡ release_puts w.cells old.reservation ++ puts_at (length w.cells) (new_cells w actor a (length es))
   pub new_is : new ≡ record old { reservation = Some (reservation_of (state_of w) a es) }
 
-pub desk-is : (w : Whole) (actor : ℕ) (d : Desk) → slice_get w.desks actor ≡ Some d → desk_at (state_of w) actor ≡ d
+pub desk-is : (w : WorldTables) (actor : ℕ) (d : Desk) → slice_get w.desks actor ≡ Some d → desk_at (state_of w) actor ≡ d
 desk-is w actor d e = ap (option_or empty_desk) e
 
-cells-send : (w : Whole) (actor : ℕ) (a : Name) (es : List Event) (puts : List CellPut) (old new : Desk) → IsSend w actor a es puts old new
+cells-send : (w : WorldTables) (actor : ℕ) (a : Name) (es : List Event) (puts : List CellPut) (old new : Desk) → IsSend w actor a es puts old new
     → put_all puts w.cells ≡ released old.reservation w.cells ++ new_cells w actor a (length es)
 cells-send w actor a es puts old new s = ap (λ (ps : List CellPut). put_all ps w.cells) s.puts_are ∙ put-reserve old.reservation w.cells (new_cells w actor a (length es))
 
-state-send : (w : Whole) (actor : ℕ) (a : Name) (es : List Event) (puts : List CellPut) (old new : Desk) → IsSend w actor a es puts old new
-    → state_of (made_all (Edit.Cells puts ∷ Edit.SetDesk actor new ∷ []) w) ≡ with_reservation actor (Some (reservation_of (state_of w) a es)) (with_cells (reserved_cells (state_of w) actor a (length es)) (state_of w))
+state-send : (w : WorldTables) (actor : ℕ) (a : Name) (es : List Event) (puts : List CellPut) (old new : Desk) → IsSend w actor a es puts old new
+    → state_of (edits_applied (Edit.Cells puts ∷ Edit.SetDesk actor new ∷ []) w) ≡ with_reservation actor (Some (reservation_of (state_of w) a es)) (with_cells (reserved_cells (state_of w) actor a (length es)) (state_of w))
 state-send w actor a es puts old new s = ap₂ (λ (cs : List Cell) (d : Desk). record (state_of w) { cells = cs; desks = slice_set w.desks actor d }) cells desk
   where
     at : desk_at (state_of w) actor ≡ old
@@ -79,16 +74,16 @@ state-send w actor a es puts old new s = ap₂ (λ (cs : List Cell) (d : Desk). 
     desk : new ≡ record (desk_at (state_of w) actor) { reservation = Some (reservation_of (state_of w) a es) }
     desk = s.new_is ∙ ap (λ (d : Desk). record d { reservation = Some (reservation_of (state_of w) a es) }) (sym at)
 
-tables-send : (w : Whole) (actor : ℕ) (a : Name) (es : List Event) (puts : List CellPut) (old new : Desk) → IsWorld w → IsSend w actor a es puts old new
-    → AllFrom (IsTable w.setting (events (put_all puts w.cells))) 0 w.places
+tables-send : (w : WorldTables) (actor : ℕ) (a : Name) (es : List Event) (puts : List CellPut) (old new : Desk) → IsWorld w → IsSend w actor a es puts old new
+    → AllFrom (IsTable w.setting (events (put_all puts w.cells))) 0 w.processor_tables
 tables-send w actor a es puts old new h s =
-    subst (λ (xs : List Stored). AllFrom (IsTable w.setting xs) 0 w.places)
+    subst (λ (xs : List Stored). AllFrom (IsTable w.setting xs) 0 w.processor_tables)
     (sym (ap (λ (cs : List Cell). events cs) (cells-send w actor a es puts old new s)
     ∙ grows-events 0 w.cells (released old.reservation w.cells ++ new_cells w actor a (length es))
     (grows-append w.cells (released old.reservation w.cells) (new_cells w actor a (length es)) (grows-released old.reservation w.cells) (quiet-replicate (length es) a (length_of a w.cells) (actor_name (state_of w) actor) w.clock))))
     h.tables
 
-pub move-send : (w : Whole) (actor : ℕ) (a : Name) (es : List Event) (puts : List CellPut) (old new : Desk) (first count seq : ℕ) → IsWorld w → EventsFit es → IsSend w actor a es puts old new
+pub move-send : (w : WorldTables) (actor : ℕ) (a : Name) (es : List Event) (puts : List CellPut) (old new : Desk) (first count seq : ℕ) → IsWorld w → EventsFit es → IsSend w actor a es puts old new
     → first ≡ length w.cells → count ≡ length es → seq ≡ length_of a w.cells
     → IsMove w (sent_events (state_of w) actor a es) (record { edits = Edit.Cells puts ∷ Edit.SetDesk actor new ∷ []; reply = Reply.Reserved first count seq; report = [] })
 move-send w actor a es puts old new first count seq h fit s first_is count_is seq_is =
@@ -109,7 +104,7 @@ move-send w actor a es puts old new first count seq h fit s first_is count_is se
     can = subst (CanPutAll w.cells) (sym s.puts_are) (can-reserve old.reservation w.cells (length es) a (actor_name (state_of w) actor) w.clock s.room h.state.log)
 
 -- a send from what its calls answered
-pub make-send : (w : Whole) (actor : ℕ) (a : Name) (es : List Event) (cells after : List Cell) (name : Name) (clock seq count first : ℕ) (reserved puts : List CellPut) (records : List Record) (older : Option Reservation) (old new : Desk)
+pub make-send : (w : WorldTables) (actor : ℕ) (a : Name) (es : List Event) (cells after : List Cell) (name : Name) (clock seq count first : ℕ) (reserved puts : List CellPut) (records : List Record) (older : Option Reservation) (old new : Desk)
     → slice_get w.desks actor ≡ Some old → older ≡ old.reservation → name ≡ actor_name (state_of w) actor → cells ≡ w.cells → after ≡ w.cells → clock ≡ w.clock → count ≡ length es
     → reserved ≡ puts_at (length cells) (replicate count (Cell.Reserved a (length_of a cells) name clock)) → length cells + count ≤ max_cells
     → puts ≡ release_puts after older ++ reserved → seq ≡ length_of a w.cells → first ≡ length w.cells → records ≡ as_records a seq es

@@ -1,2 +1,2 @@
 pub mod Logging
-pub mod Made
+pub mod SendParts

@@ -6,6 +6,7 @@ use Rattle.ax_log.specs.Log.{length_of, put_cells}
 use Rattle.ax_log.specs.Order.{max_cells}
 use Rattle.ax_log.specs.Answers.{aggregate_of, void_among}
 use Rattle.ax_sheet.specs.Sheet.{command_named}
+use Rattle.ax_sheet.specs.Commands.{Command}
 use Rattle.ax_sheet.specs.Decision.{decision}
 use Rattle.ax_state.specs.State.{State, Reservation, desk_at, with_desk, with_cells, actor_name}
 use Rattle.ax_state.specs.Positions.{aggregate_state}
@@ -13,7 +14,6 @@ use Rattle.ax_state.specs.Answer.{Answer, answer}
 use Rattle.ax_values.specs.declared.cell.Cell.{Cell}
 use Rattle.ax_values.specs.declared.record.Record.{Record}
 use Rattle.ax_upcast.specs.declared.event.Event.{Event}
-use Rattle.ax_sheet.specs.declared.parts.Command.{Command}
 use Rattle.ax_sheet.specs.declared.decision.Decided.{Decided}
 use Rattle.ax_journal.specs.declared.reply.Reply.{Reply}
 use Rattle.ax_journal.specs.declared.order.Order.{Order}

@@ -1,5 +1,5 @@
 ghost use Rattle.std.specs.Prelude.{◌≡◌, ◌<◌, Some, length, slice_get, IfOk};
-ghost use Rattle.ax_world.specs.Whole.{state_of};
+ghost use Rattle.ax_world.specs.WorldTables.{state_of};
 ghost use Rattle.ax_world.specs.Moves.{IsMove};
 ghost use Rattle.ax_step_log.specs.Logging.{append, appended};
 
@@ -12,10 +12,10 @@ use std::alloc::Global;
 
 /// The events of the desk's reservation take its cells.
 pub(crate) fn append(alloc: Global, world: &World, actor: u32) -> Result<Move, NoMemory>
-    requires { actor < length world.now.whole.setting.actors }
-    ensures { IfOk result (IsMove world.now.whole (append (state_of world.now.whole) actor)) }
+    requires { actor < length world.now.tables.setting.actors }
+    ensures { IfOk result (IsMove world.now.tables (append (state_of world.now.tables) actor)) }
 {
-    let _ = world.clock();
+    world.facts();
     let desk = world.desk(actor);
     match &desk.reservation {
         None => Ok(Move::without_edits(alloc, Reply::NoReservation)),
@@ -30,9 +30,9 @@ fn append_records(
     desk: &Desk,
     reservation: &Reservation,
 ) -> Result<Move, NoMemory>
-    requires desk { slice_get world.now.whole.desks actor ≡ Some desk.now }
+    requires desk { slice_get world.now.tables.desks actor ≡ Some desk.now }
     requires reservation { desk.now.reservation ≡ Some reservation.now }
-    ensures { IfOk result (IsMove world.now.whole (appended (state_of world.now.whole) actor (Some reservation.now))) }
+    ensures { IfOk result (IsMove world.now.tables (appended (state_of world.now.tables) actor (Some reservation.now))) }
 {
     let log = world.log();
     let first = reservation.first;

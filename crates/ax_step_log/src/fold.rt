@@ -2,7 +2,7 @@ ghost use Rattle.std.specs.Prelude.{◌≡◌, length, IfOk, OnOk};
 ghost use Rattle.std.specs.Option.{option_copied};
 ghost use Rattle.ax_rules.specs.Rules.{applied, row_or, lenient, lenient_from};
 ghost use Rattle.ax_projections.specs.Items.{items_of, plain_items};
-ghost use Rattle.ax_step_log.specs.Made.{found_items, listed_items};
+ghost use Rattle.ax_step_log.specs.SendParts.{found_items, listed_items};
 
 use ax_log::Log;
 use ax_rules::{Applied, Row, Rules};

@@ -1,7 +1,7 @@
 ghost use Rattle.std.specs.Prelude.{◌≡◌, ◌+◌, ◌<◌, ◌^◌, [], ◌∷◌, ◌++◌, length, slice_get, IfOk, IfSome};
 ghost use Rattle.ax_log.specs.Log.{is_reserved, option_is};
 ghost use Rattle.ax_world.specs.declared.edit.Edit.{Edit};
-ghost use Rattle.ax_step_log.specs.Made.{void_puts, release_puts};
+ghost use Rattle.ax_step_log.specs.SendParts.{void_puts, release_puts};
 
 use ax_journal::Reply;
 use ax_log::{CellPut, CellPuts};
@@ -73,8 +73,8 @@ pub(crate) fn cells_and_desk(
 ) -> Result<Move, NoMemory>
     ensures { IfOk result (λ answer. answer ≡ record { edits = Edit.Cells puts ∷ Edit.SetDesk actor desk ∷ []; reply = reply; report = [] }) }
 {
-    let mut edits = Edits::new(alloc);
+    let mut edits = Vec::with_capacity(alloc, 2)?;
     edits.push(Edit::Cells(puts))?;
     edits.push(Edit::SetDesk { actor, desk })?;
-    Ok(Move::of(alloc, edits, reply))
+    Ok(Move::of(alloc, Edits::of(edits), reply))
 }

@@ -1,12 +1,11 @@
 ghost use Rattle.std.specs.Prelude.{◌≡◌, ◌+◌, ◌<◌, ◌^◌, length, IfOk, IsTrue};
 ghost use Rattle.ax_sheet.specs.Sheet.{command_fits};
 ghost use Rattle.ax_sheet.specs.Decision.{decision};
-ghost use Rattle.ax_state.specs.State.{actor_name};
 ghost use Rattle.ax_state.specs.Positions.{aggregate_state};
-ghost use Rattle.ax_world.specs.Whole.{state_of};
+ghost use Rattle.ax_world.specs.WorldTables.{state_of};
 ghost use Rattle.ax_world.specs.Moves.{IsMove};
 ghost use Rattle.ax_step_log.specs.Logging.{as_records, send, sent_decided, sent_events};
-ghost use Rattle.ax_step_log.specs.Made.{EventsFit, DecidedFits, puts_number};
+ghost use Rattle.ax_step_log.specs.SendParts.{EventsFit, DecidedFits, puts_number};
 
 use crate::fold::aggregate_row;
 use crate::puts::{cells_and_desk, release};
@@ -27,10 +26,10 @@ pub(crate) fn send(
     command: &Name,
     args: &Payload,
 ) -> Result<Move, NoMemory>
-    requires { actor < length world.now.whole.setting.actors }
-    ensures { IfOk result (IsMove world.now.whole (send (state_of world.now.whole) actor aggregate.now command.now args.now)) }
+    requires { actor < length world.now.tables.setting.actors }
+    ensures { IfOk result (IsMove world.now.tables (send (state_of world.now.tables) actor aggregate.now command.now args.now)) }
 {
-    let _ = world.clock();
+    world.facts();
     let Some(command) = world.sheet().command(command) else {
         return Ok(Move::without_edits(alloc, Reply::NoReservation));
     };
@@ -46,8 +45,8 @@ fn decided(
     command: &Command,
     args: &Payload,
 ) -> Result<Decided, NoMemory>
-    requires { IsTrue (command_fits (length world.now.whole.setting.sheet.aggregate.fields) command.now) }
-    ensures value { IfOk result (λ decided. decided ≡ decision command.now args.now (aggregate_state (state_of world.now.whole) aggregate.now)) }
+    requires { IsTrue (command_fits (length world.now.tables.setting.sheet.aggregate.fields) command.now) }
+    ensures value { IfOk result (λ decided. decided ≡ decision command.now args.now (aggregate_state (state_of world.now.tables) aggregate.now)) }
     ensures fits { IfOk result DecidedFits }
 {
     let sheet = world.sheet();
@@ -68,11 +67,11 @@ fn reserve(
     aggregate: &Name,
     decided: Decided,
 ) -> Result<Move, NoMemory>
-    requires actor { actor < length world.now.whole.setting.actors }
+    requires actor { actor < length world.now.tables.setting.actors }
     requires fit { DecidedFits decided }
-    ensures { IfOk result (IsMove world.now.whole (sent_decided (state_of world.now.whole) actor aggregate.now decided)) }
+    ensures { IfOk result (IsMove world.now.tables (sent_decided (state_of world.now.tables) actor aggregate.now decided)) }
 {
-    let _ = world.clock();
+    world.facts();
     match decided {
         Decided::Guard(guard) => Ok(Move::without_edits(alloc, Reply::GuardFails { guard })),
         Decided::Events(events) => reserve_cells(alloc, world, actor, aggregate, events),
@@ -86,13 +85,13 @@ fn reserve_cells(
     aggregate: &Name,
     events: Events,
 ) -> Result<Move, NoMemory>
-    requires actor { actor < length world.now.whole.setting.actors }
+    requires actor { actor < length world.now.tables.setting.actors }
     requires fit { EventsFit events }
-    ensures { IfOk result (IsMove world.now.whole (sent_events (state_of world.now.whole) actor aggregate.now events)) }
+    ensures { IfOk result (IsMove world.now.tables (sent_events (state_of world.now.tables) actor aggregate.now events)) }
 {
     let count = events.parts().len() as u32;
     let log = world.log();
-    let name = name_of(world, actor);
+    let name = world.actor_name(actor);
     let reserved = match log.reserve(alloc, aggregate, name, count, world.clock()) {
         Ok(puts) => puts,
         Err(LogFault::LogFull) => return Ok(Move::without_edits(alloc, Reply::LogFull)),
@@ -114,13 +113,6 @@ fn reserve_cells(
         first: first_seq,
     };
     cells_and_desk(alloc, puts, actor, desk, reply)
-}
-
-fn name_of(world: &World, actor: u32) -> &Name
-    requires { actor < length world.now.whole.setting.actors }
-    ensures { result.now ≡ actor_name (state_of world.now.whole) actor }
-{
-    &world.actors().parts()[actor as usize]
 }
 
 /// The first number for which the first put reserves its cell.
@@ -146,7 +138,7 @@ fn records_of(
     requires { first + length events < 2 ^ 32 }
     ensures { IfOk result (λ records. records ≡ as_records aggregate.now first events) }
 {
-    let mut records = Vec::new(alloc);
+    let mut records = Vec::with_capacity(alloc, events.parts().len())?;
     let mut seq = first;
     for event in events.into_parts() {
         let Event {

@@ -6,10 +6,10 @@ use Rattle.ax_log.specs.Log.{is_settled}
 use Rattle.ax_segments.specs.Segments.{half_mask, is_upper, max_mask}
 use Rattle.ax_tokens.specs.Plain.{Plain, has, contains, below, end_of, plain_of, settles, advanced_plain, includes}
 use Rattle.ax_tokens.specs.Tokens.{Token, plain, merged, replay, parts, half, covers, covers_here, advanced, collapsed, caught_up, joins, joined, gaps_fit, masks_fit, max_gaps}
-use Rattle.ax_tokens.proofs.Sets.{contains-filter-below, has-plain_of, and-left, and-right, plain_of-canonical}
+use Rattle.ax_tokens.proofs.Sets.{contains-filter-below, has-plain_of, plain_of-canonical}
 use Rattle.ax_tokens.proofs.Gaps.{canonical-plain_of}
 use Rattle.ax_tokens.proofs.Changes.{covers-advanced, covers-collapsed, is_collapsed-collapsed, collapsed-is}
-use Rattle.ax_values.proofs.Options.{both}
+use Rattle.ax_laws.proofs.Tests.{both, and-left, and-right}
 use Rattle.ax_state.specs.WellFormed.{IsPlainOver, IsTokenOver, Advanced, with_added}
 use Rattle.ax_state.proofs.Lists.{All-append, All-map}
 use Rattle.ax_values.specs.declared.cell.Cell.{Cell}

@@ -8,7 +8,7 @@ use Rattle.std.proofs.lemmas.List.{length-set, map-append}
 use Rattle.std.proofs.lemmas.Slice.Eq.{bytes_eq-Decides}
 use Rattle.ax_values.specs.Grammar.{Name}
 use Rattle.ax_values.specs.Words.{same_name}
-use Rattle.ax_values.proofs.Options.{both}
+use Rattle.ax_laws.proofs.Tests.{both}
 use Rattle.ax_log.specs.Log.{Stored, events, stream_in, option_is}
 use Rattle.ax_rules.specs.Expr.{Row}
 use Rattle.ax_rules.specs.Rules.{Rules, and_then, fold_from, fold_items, start_row, row_or}
@@ -17,24 +17,23 @@ use Rattle.ax_tokens.specs.Tokens.{covers}
 use Rattle.ax_projections.specs.Items.{Placed, placed_items, plain_items}
 use Rattle.ax_projections.proofs.RebuildLaws.{items-own}
 use Rattle.ax_claims.specs.Rows.{TokenRow, row_at, put_row}
-use Rattle.ax_claims.proofs.Places.{put-here, rows-kept, get-within}
-use Rattle.ax_sheet.specs.Declarations.{names_differ}
+use Rattle.ax_claims.proofs.RowPlaces.{put-here, rows-kept, get-within}
+use Rattle.ax_sheet.specs.Declarations.{names_differ, Processor}
 use Rattle.ax_state.specs.Every.{count, option_or}
 use Rattle.ax_state.specs.Setting.{name_at, projection_at}
-use Rattle.ax_state.specs.State.{State, Shelf, Desk, Batch, desk_at, shelf_at, empty_desk, empty_shelf, actor_name}
+use Rattle.ax_state.specs.State.{State, ProcessorState, Desk, Batch, desk_at, processor_state_at, empty_desk, empty_processor, actor_name}
 use Rattle.ax_state.specs.Positions.{first_letter, drops_of, row_in}
 use Rattle.ax_state.specs.Answer.{Answer, answer}
 use Rattle.ax_state.specs.Portions.{Portion, portion_of, portions, put_portion, covered_by, covered_events, items_in, row_by}
-use Rattle.ax_state.specs.WellFormed.{IsWellFormed, IsSeat, IsPlace, IsTokenOver, AreParts, AreTokens, CoverPrefix, IsStanding, IsBatchRow, IsBatchAt, IsBatchIn, IsShelfBy, IsOwnedRight, IsFencedShelf, OwnsRow, OwnsAs, HoldsCells, HasRows, holds_cell, fence_count, is_prefix_test}
+use Rattle.ax_state.specs.WellFormed.{IsWellFormed, IsDeskOf, IsProcessorState, IsTokenOver, AreParts, AreTokens, CoverPrefix, IsStanding, IsBatchRow, IsBatchAt, IsBatchIn, IsProcessorBy, IsOwnedRight, IsFencedProcessor, OwnsRow, OwnsAs, HoldsCells, HasRows, holds_cell, fence_count, is_prefix_test}
 use Rattle.ax_state.proofs.Lists.{All-map, All-set, All-at, All-get, AllFrom-map, AllFrom-set, AllFrom-at, AllFrom-get, AllFrom-others, AllFrom-of, AllFrom-zip, AllFrom-each, count-set_same, IfSome-map}
-use Rattle.ax_state.proofs.Puts.{found-row}
+use Rattle.ax_state.proofs.RowPuts.{found-row}
 use Rattle.ax_state.proofs.Starting.{parts-of}
 use Rattle.ax_state.proofs.Prefixes.{covered-stream, same-row}
 use Rattle.ax_step_work.specs.Working.{Failure, fetched_events, batch_items, share_of, row_behind, present_row, first_failure, installed, committed, commit_over, commit_batch, commit, with_batch}
 use Rattle.ax_step_work.proofs.Advancing.{advanced-keeps}
 use Rattle.ax_step_work.proofs.Covering.{IsChanged, changed, covered-here, rows-of, hash-small, same-tests}
 use Rattle.ax_step_work.proofs.Folding.{covered-split, stream-filter, row-now, fold-append, no-failure}
-use Rattle.ax_sheet.specs.declared.parts.Processor.{Processor}
 use Rattle.ax_rules.specs.declared.cause.Cause.{Cause}
 use Rattle.ax_journal.specs.declared.reply.Reply.{Reply}
 use Rattle.ax_upcast.specs.declared.upcaster.Upcaster.{Upcaster}
@@ -115,67 +114,67 @@ no-both (Some q) h k = at q.saga h k
     at false h k = cc
 
 -- the row of a batch, found under the batch's fence
-module _ (m : State) (actor : ℕ) (b : Batch) (shelf : Shelf) (r : TokenRow) (at : slice_get m.shelves b.processor ≡ Some shelf) (found : row_at b.segment shelf.rows ≡ Some r) (fence : r.fence ≡ b.fence) (mine : (desk_at m actor).batch ≡ Some b)
+module _ (m : State) (actor : ℕ) (b : Batch) (processor_state : ProcessorState) (r : TokenRow) (at : slice_get m.processor_states b.processor ≡ Some processor_state) (found : row_at b.segment processor_state.rows ≡ Some r) (fence : r.fence ≡ b.fence) (mine : (desk_at m actor).batch ≡ Some b)
     (differ : IsTrue (names_differ m.setting.actors)) (h : IsWellFormed m) where
-  was : IsPlace m.setting m.cells b.processor shelf
-  was = AllFrom-get (IsPlace m.setting m.cells) 0 m.shelves b.processor shelf h.places at b.processor (omega arith)
+  was : IsProcessorState m.setting m.cells b.processor processor_state
+  was = AllFrom-get (IsProcessorState m.setting m.cells) 0 m.processor_states b.processor processor_state h.processors at b.processor (omega arith)
 
-  place : (k : ℕ) × (slice_get shelf.rows k ≡ Some r) × (r.segment ≡ b.segment)
-  place = found-row b.segment shelf.rows r found
+  place : (k : ℕ) × (slice_get processor_state.rows k ≡ Some r) × (r.segment ≡ b.segment)
+  place = found-row b.segment processor_state.rows r found
 
-  in-batch : IsBatchIn m.setting m.cells m.shelves b
-  in-batch = subst (λ o. IfSome o (IsBatchIn m.setting m.cells m.shelves)) mine (All-at (λ d. IfSome d.batch (IsBatchIn m.setting m.cells m.shelves)) m.desks actor empty_desk h.batches tt)
+  in-batch : IsBatchIn m.setting m.cells m.processor_states b
+  in-batch = subst (λ o. IfSome o (IsBatchIn m.setting m.cells m.processor_states)) mine (All-at (λ d. IfSome d.batch (IsBatchIn m.setting m.cells m.processor_states)) m.desks actor empty_desk h.batches tt)
 
-  standing : IsStanding m.cells (portions shelf.rows) b r.token
-  standing = All-get (IsBatchRow m.cells (portions shelf.rows) b) shelf.rows place.0 r (AllFrom-get (IsBatchAt m.cells b) 0 m.shelves b.processor shelf in-batch.rows at b.processor (omega arith) refl) place.1 place.2 fence
+  standing : IsStanding m.cells (portions processor_state.rows) b r.token
+  standing = All-get (IsBatchRow m.cells (portions processor_state.rows) b) processor_state.rows place.0 r (AllFrom-get (IsBatchAt m.cells b) 0 m.processor_states b.processor processor_state in-batch.rows at b.processor (omega arith) refl) place.1 place.2 fence
 
-  seat : IsSeat m.fence m.shelves (actor_name m actor) (desk_at m actor)
-  seat = AllFrom-at (λ k d. IsSeat m.fence m.shelves (name_at m.setting.actors k) d) 0 m.desks actor empty_desk h.desks (λ j. record { held = tt; batch = tt }) actor (omega arith)
+  seat : IsDeskOf m.fence m.processor_states (actor_name m actor) (desk_at m actor)
+  seat = AllFrom-at (λ k d. IsDeskOf m.fence m.processor_states (name_at m.setting.actors k) d) 0 m.desks actor empty_desk h.desks (λ j. record { held = tt; batch = tt }) actor (omega arith)
 
-  owns : (b.fence ≤ m.fence) × OwnsAs (actor_name m actor) m.shelves b.processor b.segment b.fence
-  owns = subst (λ o. IfSome o (λ b. (b.fence ≤ m.fence) × OwnsAs (actor_name m actor) m.shelves b.processor b.segment b.fence)) mine seat.batch
+  owns : (b.fence ≤ m.fence) × OwnsAs (actor_name m actor) m.processor_states b.processor b.segment b.fence
+  owns = subst (λ o. IfSome o (λ b. (b.fence ≤ m.fence) × OwnsAs (actor_name m actor) m.processor_states b.processor b.segment b.fence)) mine seat.batch
 
   owner : r.owner ≡ Some (actor_name m actor)
-  owner = (All-get (OwnsRow (actor_name m actor) b.processor b.segment b.fence b.processor) shelf.rows place.0 r (AllFrom-get (λ k x. AllByRecursion (OwnsRow (actor_name m actor) b.processor b.segment b.fence k) x.rows) 0 m.shelves b.processor shelf owns.1 at b.processor (omega arith)) place.1 fence).2
+  owner = (All-get (OwnsRow (actor_name m actor) b.processor b.segment b.fence b.processor) processor_state.rows place.0 r (AllFrom-get (λ k x. AllByRecursion (OwnsRow (actor_name m actor) b.processor b.segment b.fence k) x.rows) 0 m.processor_states b.processor processor_state owns.1 at b.processor (omega arith)) place.1 fence).2
 
   -- the row with the batch's token
   abbrev n : TokenRow
   n = record r { token = b.new; since = m.clock }
 
-  abbrev after : Shelf
-  after = record shelf { rows = put_row n shelf.rows }
+  abbrev after : ProcessorState
+  after = record processor_state { rows = put_row n processor_state.rows }
 
-  rows-are : put_row n shelf.rows ≡ slice_set shelf.rows place.0 n
-  rows-are = put-here n shelf.rows place.0 r (rows-of shelf.rows was.parts).order place.1 refl
+  rows-are : put_row n processor_state.rows ≡ slice_set processor_state.rows place.0 n
+  rows-are = put-here n processor_state.rows place.0 r (rows-of processor_state.rows was.parts).order place.1 refl
 
-  put : IsChanged shelf.rows (put_row n shelf.rows) n
-  put = changed shelf.rows place.0 r n was.parts place.1 refl
+  put : IsChanged processor_state.rows (put_row n processor_state.rows) n
+  put = changed processor_state.rows place.0 r n was.parts place.1 refl
 
-  pub added : IsAdded m.setting.sheet.chain (events m.cells) shelf.rows (put_row n shelf.rows) b
-  added = items-added m.setting.sheet.chain (events m.cells) shelf.rows place.0 r n b was.parts was.folded.prefixes place.1 place.2 standing.old refl refl (λ mask k i. advanced-keeps m.cells b.old b.new mask k i standing.new)
+  pub added : IsAdded m.setting.sheet.chain (events m.cells) processor_state.rows (put_row n processor_state.rows) b
+  added = items-added m.setting.sheet.chain (events m.cells) processor_state.rows place.0 r n b was.parts was.folded.prefixes place.1 place.2 standing.old refl refl (λ mask k i. advanced-keeps m.cells b.old b.new mask k i standing.new)
 
   -- ---- rows put
 
-  all-rows : (P : TokenRow → Type 0) → AllByRecursion P shelf.rows → P n → AllByRecursion P (put_row n shelf.rows)
-  all-rows P all p = subst (AllByRecursion P) (sym rows-are) (All-set P shelf.rows place.0 n all p)
+  all-rows : (P : TokenRow → Type 0) → AllByRecursion P processor_state.rows → P n → AllByRecursion P (put_row n processor_state.rows)
+  all-rows P all p = subst (AllByRecursion P) (sym rows-are) (All-set P processor_state.rows place.0 n all p)
 
-  parts-after : AreParts (portions (put_row n shelf.rows))
-  parts-after = subst (λ rows. AreParts (portions rows)) (sym rows-are) (parts-of (slice_set shelf.rows place.0 n) (rows-kept n shelf.rows place.0 r (rows-of shelf.rows was.parts) place.1 refl))
+  parts-after : AreParts (portions (put_row n processor_state.rows))
+  parts-after = subst (λ rows. AreParts (portions rows)) (sym rows-are) (parts-of (slice_set processor_state.rows place.0 n) (rows-kept n processor_state.rows place.0 r (rows-of processor_state.rows was.parts) place.1 refl))
 
   portions-set : (rows : List TokenRow) (k : ℕ) → portions (slice_set rows k n) ≡ slice_set (portions rows) k (portion_of n)
   portions-set [] k = refl
   portions-set (x ∷ xs) zero = refl
   portions-set (x ∷ xs) (suc k) = ap (λ ps. portion_of x ∷ ps) (portions-set xs k)
 
-  tokens-after : AreTokens m.cells (portions (put_row n shelf.rows))
+  tokens-after : AreTokens m.cells (portions (put_row n processor_state.rows))
   tokens-after =
       subst (λ rows. AreTokens m.cells (portions rows)) (sym rows-are)
-      (subst (AreTokens m.cells) (sym (portions-set shelf.rows place.0))
-      (All-set (λ x. IsTokenOver m.cells x.segment.mask x.token) (portions shelf.rows) place.0 (portion_of n) was.tokens (subst (λ (t : Segment). IsTokenOver m.cells t.mask b.new) (sym place.2) standing.token)))
+      (subst (AreTokens m.cells) (sym (portions-set processor_state.rows place.0))
+      (All-set (λ x. IsTokenOver m.cells x.segment.mask x.token) (portions processor_state.rows) place.0 (portion_of n) was.tokens (subst (λ (t : Segment). IsTokenOver m.cells t.mask b.new) (sym place.2) standing.token)))
 
-  prefixes-after : CoverPrefix (events m.cells) (portions (put_row n shelf.rows))
+  prefixes-after : CoverPrefix (events m.cells) (portions (put_row n processor_state.rows))
   prefixes-after =
-      subst (CoverPrefix (events m.cells)) (sym (put.put ∙ ap (λ (t : Segment). put_portion (record { segment = t; token = b.new }) (portions shelf.rows)) place.2)) standing.prefixes
+      subst (CoverPrefix (events m.cells)) (sym (put.put ∙ ap (λ (t : Segment). put_portion (record { segment = t; token = b.new }) (portions processor_state.rows)) place.2)) standing.prefixes
 
   -- ---- rows of aggregates
 
@@ -188,17 +187,17 @@ module _ (m : State) (actor : ℕ) (b : Batch) (shelf : Shelf) (r : TokenRow) (a
   abbrev xs : List Placed
   xs = batch_items chain b (events m.cells)
 
-  is-shelf : shelf_at m b.processor ≡ shelf
-  is-shelf = ap (option_or empty_shelf) at
+  is-processor_state : processor_state_at m b.processor ≡ processor_state
+  is-processor_state = ap (option_or empty_processor) at
 
   -- the present row is the fold of what is covered
   abbrev present : Name → Result Row Cause
-  present a = row_by rules chain (covered_events (portions shelf.rows) (events m.cells)) None [] a
+  present a = row_by rules chain (covered_events (portions processor_state.rows) (events m.cells)) None [] a
 
   pub present-is : (a : Name) → present_row m b.processor a ≡ row_or (start_row rules.fields) (present a)
   present-is a =
-      ap (λ (x : Shelf). row_or (start_row rules.fields) (row_in rules chain m.cells x a)) is-shelf
-      ∙ ap (row_or (start_row rules.fields)) (same-row rules chain m.cells shelf a was.folded.prefixes)
+      ap (λ (x : ProcessorState). row_or (start_row rules.fields) (row_in rules chain m.cells x a)) is-processor_state
+      ∙ ap (row_or (start_row rules.fields)) (same-row rules chain m.cells processor_state a was.folded.prefixes)
 
   ok-row : (a : Name) → IsOk (present a)
   ok-row a = was.folded.rows in-batch.declared a
@@ -208,31 +207,31 @@ module _ (m : State) (actor : ℕ) (b : Batch) (shelf : Shelf) (r : TokenRow) (a
   is-ok (Err c) start k = absurd (cc)
 
   -- behind a batch of which no item fails, the row is the fold of the batch's items over the present row
-  pub row-after : (a : Name) → row_by rules chain (covered_events (portions (put_row n shelf.rows)) (events m.cells)) None [] a ≡ row_behind rules (present_row m b.processor) xs a
+  pub row-after : (a : Name) → row_by rules chain (covered_events (portions (put_row n processor_state.rows)) (events m.cells)) None [] a ≡ row_behind rules (present_row m b.processor) xs a
   row-after a = by (matches b.segment (hash_of a)) refl
     where
       before : List Placed
-      before = items_in chain (covered_events (portions shelf.rows) (events m.cells)) a
+      before = items_in chain (covered_events (portions processor_state.rows) (events m.cells)) a
 
       ok-fold : fold_items rules (plain_items before) ≡ Ok (present_row m b.processor a)
       ok-fold =
-          sym (row-now rules chain (covered_events (portions shelf.rows) (events m.cells)) a)
+          sym (row-now rules chain (covered_events (portions processor_state.rows) (events m.cells)) a)
           ∙ is-ok (present a) (start_row rules.fields) (ok-row a) ∙ ap Ok (sym (present-is a))
 
-      by : (c : Bool) → matches b.segment (hash_of a) ≡ c → row_by rules chain (covered_events (portions (put_row n shelf.rows)) (events m.cells)) None [] a ≡ row_behind rules (present_row m b.processor) xs a
+      by : (c : Bool) → matches b.segment (hash_of a) ≡ c → row_by rules chain (covered_events (portions (put_row n processor_state.rows)) (events m.cells)) None [] a ≡ row_behind rules (present_row m b.processor) xs a
       by true e =
-          row-now rules chain (covered_events (portions (put_row n shelf.rows)) (events m.cells)) a
+          row-now rules chain (covered_events (portions (put_row n processor_state.rows)) (events m.cells)) a
           ∙ ap (λ ys. fold_items rules (plain_items ys)) (added.mine a e)
           ∙ ap (λ ys. fold_from rules ys (start_row rules.fields)) (map-append (λ (x : Placed). x.item) before (share_of a xs))
           ∙ fold-append rules (plain_items before) (plain_items (share_of a xs)) (start_row rules.fields)
           ∙ ap (λ o. and_then o (λ x. fold_from rules (plain_items (share_of a xs)) x)) ok-fold
       by false e =
-          row-now rules chain (covered_events (portions (put_row n shelf.rows)) (events m.cells)) a
+          row-now rules chain (covered_events (portions (put_row n processor_state.rows)) (events m.cells)) a
           ∙ ap (λ ys. fold_items rules (plain_items ys)) (added.others a e)
           ∙ ok-fold
           ∙ sym (ap (λ ys. fold_from rules (plain_items ys) (present_row m b.processor a)) (added.none a e))
 
-  rows-after : first_failure rules (present_row m b.processor) [] xs ≡ None → HasRows m.setting b.processor (covered_events (portions (put_row n shelf.rows)) (events m.cells)) (first_letter after) (drops_of after)
+  rows-after : first_failure rules (present_row m b.processor) [] xs ≡ None → HasRows m.setting b.processor (covered_events (portions (put_row n processor_state.rows)) (events m.cells)) (first_letter after) (drops_of after)
   rows-after none e a = subst IsOk (sym (row-after a)) (no-failure rules (present_row m b.processor) xs [] none (λ a. refl) a)
 
   -- ---- desks and fences
@@ -240,34 +239,34 @@ module _ (m : State) (actor : ℕ) (b : Batch) (shelf : Shelf) (r : TokenRow) (a
   abbrev desk : Desk
   desk = record (desk_at m actor) { batch = None }
 
-  abbrev shelves : List Shelf
-  shelves = slice_set m.shelves b.processor after
+  abbrev processor_states : List ProcessorState
+  processor_states = slice_set m.processor_states b.processor after
 
-  owns-after : (w : Name) (q : ℕ) (t : Segment) (f : ℕ) → OwnsAs w m.shelves q t f → OwnsAs w shelves q t f
+  owns-after : (w : Name) (q : ℕ) (t : Segment) (f : ℕ) → OwnsAs w m.processor_states q t f → OwnsAs w processor_states q t f
   owns-after w q t f own =
-      AllFrom-set (λ k x. AllByRecursion (OwnsRow w q t f k) x.rows) 0 m.shelves b.processor after own
-      (λ k e. let old : AllByRecursion (OwnsRow w q t f k) shelf.rows = AllFrom-get (λ k x. AllByRecursion (OwnsRow w q t f k) x.rows) 0 m.shelves b.processor shelf own at k e in
-      all-rows (OwnsRow w q t f k) old (All-get (OwnsRow w q t f k) shelf.rows place.0 r old place.1))
+      AllFrom-set (λ k x. AllByRecursion (OwnsRow w q t f k) x.rows) 0 m.processor_states b.processor after own
+      (λ k e. let old : AllByRecursion (OwnsRow w q t f k) processor_state.rows = AllFrom-get (λ k x. AllByRecursion (OwnsRow w q t f k) x.rows) 0 m.processor_states b.processor processor_state own at k e in
+      all-rows (OwnsRow w q t f k) old (All-get (OwnsRow w q t f k) processor_state.rows place.0 r old place.1))
 
-  seat-after : (w : Name) (d : Desk) → IsSeat m.fence m.shelves w d → IsSeat m.fence shelves w d
+  seat-after : (w : Name) (d : Desk) → IsDeskOf m.fence m.processor_states w d → IsDeskOf m.fence processor_states w d
   seat-after w d s = record {
-    held = All-map (λ x. (x.fence ≤ m.fence) × OwnsAs w m.shelves x.processor x.segment x.fence) (λ x. (x.fence ≤ m.fence) × OwnsAs w shelves x.processor x.segment x.fence) (λ x k. (k.0, owns-after w x.processor x.segment x.fence k.1)) d.held s.held;
-    batch = IfSome-map (λ x. (x.fence ≤ m.fence) × OwnsAs w m.shelves x.processor x.segment x.fence) (λ x. (x.fence ≤ m.fence) × OwnsAs w shelves x.processor x.segment x.fence) (λ x k. (k.0, owns-after w x.processor x.segment x.fence k.1)) d.batch s.batch;
+    held = All-map (λ x. (x.fence ≤ m.fence) × OwnsAs w m.processor_states x.processor x.segment x.fence) (λ x. (x.fence ≤ m.fence) × OwnsAs w processor_states x.processor x.segment x.fence) (λ x k. (k.0, owns-after w x.processor x.segment x.fence k.1)) d.held s.held;
+    batch = IfSome-map (λ x. (x.fence ≤ m.fence) × OwnsAs w m.processor_states x.processor x.segment x.fence) (λ x. (x.fence ≤ m.fence) × OwnsAs w processor_states x.processor x.segment x.fence) (λ x k. (k.0, owns-after w x.processor x.segment x.fence k.1)) d.batch s.batch;
   }
 
-  count-same : (f : ℕ) → count (λ x. x.fence == f) (put_row n shelf.rows) ≡ count (λ x. x.fence == f) shelf.rows
-  count-same f = ap (count (λ x. x.fence == f)) rows-are ∙ count-set_same (λ x. x.fence == f) shelf.rows place.0 r n (ap (λ (x : TokenRow). x.fence == f) (sym (ap (option_or r) place.1)))
+  count-same : (f : ℕ) → count (λ x. x.fence == f) (put_row n processor_state.rows) ≡ count (λ x. x.fence == f) processor_state.rows
+  count-same f = ap (count (λ x. x.fence == f)) rows-are ∙ count-set_same (λ x. x.fence == f) processor_state.rows place.0 r n (ap (λ (x : TokenRow). x.fence == f) (sym (ap (option_or r) place.1)))
 
-  fences-same : (f : ℕ) (ss : List Shelf) (p : ℕ) → slice_get ss p ≡ Some shelf → fence_count f (slice_set ss p after) ≡ fence_count f ss
+  fences-same : (f : ℕ) (ss : List ProcessorState) (p : ℕ) → slice_get ss p ≡ Some processor_state → fence_count f (slice_set ss p after) ≡ fence_count f ss
   fences-same f [] p e = refl
-  fences-same f (x ∷ ss) zero e = let is : x ≡ shelf = cc in ap (λ k. k + fence_count f ss) (count-same f ∙ ap (λ (y : Shelf). count (λ x. x.fence == f) y.rows) (sym is))
+  fences-same f (x ∷ ss) zero e = let is : x ≡ processor_state = cc in ap (λ k. k + fence_count f ss) (count-same f ∙ ap (λ (y : ProcessorState). count (λ x. x.fence == f) y.rows) (sym is))
   fences-same f (x ∷ ss) (suc p) e = ap (λ k. count (λ x. x.fence == f) x.rows + k) (fences-same f ss p e)
 
   -- ---- other batches
 
   -- what a batch of another desk asks of a row
-  other-row : (d : Batch) (q : TokenRow) (k : ℕ) → slice_get shelf.rows k ≡ Some q → IsBatchRow m.cells (portions shelf.rows) d q → (k ≡ place.0 → ⊥)
-      → IsBatchRow m.cells (portions (put_row n shelf.rows)) d q
+  other-row : (d : Batch) (q : TokenRow) (k : ℕ) → slice_get processor_state.rows k ≡ Some q → IsBatchRow m.cells (portions processor_state.rows) d q → (k ≡ place.0 → ⊥)
+      → IsBatchRow m.cells (portions (put_row n processor_state.rows)) d q
   other-row d q k e row differs seg is = record {
     old = (row seg is).old;
     new = (row seg is).new;
@@ -279,11 +278,11 @@ module _ (m : State) (actor : ℕ) (b : Batch) (shelf : Shelf) (r : TokenRow) (a
       x : TokenRow
       x = record q { token = d.new }
 
-      first : IsChanged shelf.rows (put_row x shelf.rows) x
-      first = changed shelf.rows k q x was.parts e refl
+      first : IsChanged processor_state.rows (put_row x processor_state.rows) x
+      first = changed processor_state.rows k q x was.parts e refl
 
-      kept-at : slice_get (put_row n shelf.rows) k ≡ Some q
-      kept-at = ap (λ rows. slice_get rows k) rows-are ∙ get-other shelf.rows place.0 k differs ∙ e
+      kept-at : slice_get (put_row n processor_state.rows) k ≡ Some q
+      kept-at = ap (λ rows. slice_get rows k) rows-are ∙ get-other processor_state.rows place.0 k differs ∙ e
         where
           get-other : (rows : List TokenRow) (p k : ℕ) → (k ≡ p → ⊥) → slice_get (slice_set rows p n) k ≡ slice_get rows k
           get-other [] p k f = refl
@@ -292,14 +291,14 @@ module _ (m : State) (actor : ℕ) (b : Batch) (shelf : Shelf) (r : TokenRow) (a
           get-other (y ∷ ys) (suc p) zero f = refl
           get-other (y ∷ ys) (suc p) (suc k) f = get-other ys p k (λ i. f (ap suc i))
 
-      second : IsChanged (put_row n shelf.rows) (put_row x (put_row n shelf.rows)) x
-      second = changed (put_row n shelf.rows) k q x parts-after kept-at refl
+      second : IsChanged (put_row n processor_state.rows) (put_row x (put_row n processor_state.rows)) x
+      second = changed (put_row n processor_state.rows) k q x parts-after kept-at refl
 
-      before : CoverPrefix (events m.cells) (portions (put_row x shelf.rows))
-      before = subst (CoverPrefix (events m.cells)) (sym (first.put ∙ ap (λ (t : Segment). put_portion (record { segment = t; token = d.new }) (portions shelf.rows)) seg)) (row seg is).prefixes
+      before : CoverPrefix (events m.cells) (portions (put_row x processor_state.rows))
+      before = subst (CoverPrefix (events m.cells)) (sym (first.put ∙ ap (λ (t : Segment). put_portion (record { segment = t; token = d.new }) (portions processor_state.rows)) seg)) (row seg is).prefixes
 
-      is-put : portions (put_row x (put_row n shelf.rows)) ≡ put_portion (record { segment = d.segment; token = d.new }) (portions (put_row n shelf.rows))
-      is-put = second.put ∙ ap (λ (t : Segment). put_portion (record { segment = t; token = d.new }) (portions (put_row n shelf.rows))) seg
+      is-put : portions (put_row x (put_row n processor_state.rows)) ≡ put_portion (record { segment = d.segment; token = d.new }) (portions (put_row n processor_state.rows))
+      is-put = second.put ∙ ap (λ (t : Segment). put_portion (record { segment = t; token = d.new }) (portions (put_row n processor_state.rows))) seg
 
       agree : (a : Name) (ps qs : List Portion) → ((i : ℕ) → covered_by ps (hash_of a) i ≡ covered_by qs (hash_of a) i) → is_prefix_test (map (λ e. covered_by qs (hash_of a) e.index) (stream_in a (events m.cells))) ≡ true
           → is_prefix_test (map (λ e. covered_by ps (hash_of a) e.index) (stream_in a (events m.cells))) ≡ true
@@ -310,14 +309,14 @@ module _ (m : State) (actor : ℕ) (b : Batch) (shelf : Shelf) (r : TokenRow) (a
           every f (y ∷ es) = (f y.index, every f es)
 
       prefix : (a : Name) (c : Bool) → matches d.segment (hash_of a) ≡ c → (g : Bool) → matches b.segment (hash_of a) ≡ g
-          → is_prefix_test (map (λ e. covered_by (put_portion (record { segment = d.segment; token = d.new }) (portions (put_row n shelf.rows))) (hash_of a) e.index) (stream_in a (events m.cells))) ≡ true
+          → is_prefix_test (map (λ e. covered_by (put_portion (record { segment = d.segment; token = d.new }) (portions (put_row n processor_state.rows))) (hash_of a) e.index) (stream_in a (events m.cells))) ≡ true
       prefix a true u g v =
           subst (λ ps. is_prefix_test (map (λ e. covered_by ps (hash_of a) e.index) (stream_in a (events m.cells))) ≡ true) is-put
-          (agree a (portions (put_row x (put_row n shelf.rows))) (portions (put_row x shelf.rows))
+          (agree a (portions (put_row x (put_row n processor_state.rows))) (portions (put_row x processor_state.rows))
           (λ i. second.here (hash_of a) i (hash-small a) (ap (λ t. matches t (hash_of a)) seg ∙ u) ∙ sym (first.here (hash_of a) i (hash-small a) (ap (λ t. matches t (hash_of a)) seg ∙ u))) (before a))
       prefix a false u g v =
           subst (λ ps. is_prefix_test (map (λ e. covered_by ps (hash_of a) e.index) (stream_in a (events m.cells))) ≡ true) is-put
-          (agree a (portions (put_row x (put_row n shelf.rows))) (portions (put_row n shelf.rows)) (λ i. second.other (hash_of a) i (ap (λ t. matches t (hash_of a)) seg ∙ u)) (prefixes-after a))
+          (agree a (portions (put_row x (put_row n processor_state.rows))) (portions (put_row n processor_state.rows)) (λ i. second.other (hash_of a) i (ap (λ t. matches t (hash_of a)) seg ∙ u)) (prefixes-after a))
 
   -- ---- another desk
 
@@ -363,42 +362,42 @@ module _ (m : State) (actor : ℕ) (b : Batch) (shelf : Shelf) (r : TokenRow) (a
       let same : Some (name_at m.setting.actors j) ≡ Some (actor_name m actor) = sym own ∙ owner in
       ne (name-once m.setting.actors j actor (actor_name m actor) differ (get-name m.setting.actors j (omega arith) ∙ same) (get-name m.setting.actors actor (omega arith)))
 
-  other-batch : (j : ℕ) (x : Desk) → j < length m.desks → (j ≡ actor → ⊥) → (d : Batch) → (d.fence ≤ m.fence) × OwnsAs (name_at m.setting.actors j) m.shelves d.processor d.segment d.fence → IsBatchIn m.setting m.cells m.shelves d → IsBatchIn m.setting m.cells shelves d
+  other-batch : (j : ℕ) (x : Desk) → j < length m.desks → (j ≡ actor → ⊥) → (d : Batch) → (d.fence ≤ m.fence) × OwnsAs (name_at m.setting.actors j) m.processor_states d.processor d.segment d.fence → IsBatchIn m.setting m.cells m.processor_states d → IsBatchIn m.setting m.cells processor_states d
   other-batch j x lt ne d own k = record {
     declared = k.declared;
-    rows = AllFrom-set (IsBatchAt m.cells d) 0 m.shelves b.processor after k.rows (λ q e of. rows-of-other q e of);
+    rows = AllFrom-set (IsBatchAt m.cells d) 0 m.processor_states b.processor after k.rows (λ q e of. rows-of-other q e of);
   }
     where
       w : Name
       w = name_at m.setting.actors j
 
-      rows-of-other : (q : ℕ) → q ≡ 0 + b.processor → q ≡ d.processor → AllByRecursion (IsBatchRow m.cells (portions (put_row n shelf.rows)) d) (put_row n shelf.rows)
+      rows-of-other : (q : ℕ) → q ≡ 0 + b.processor → q ≡ d.processor → AllByRecursion (IsBatchRow m.cells (portions (put_row n processor_state.rows)) d) (put_row n processor_state.rows)
       rows-of-other q e of =
-          subst (AllByRecursion (IsBatchRow m.cells (portions (put_row n shelf.rows)) d)) (sym rows-are)
-          (AllFrom-each (λ k x. IsBatchRow m.cells (portions (put_row n shelf.rows)) d x) (IsBatchRow m.cells (portions (put_row n shelf.rows)) d) (λ k x p. p) 0 (slice_set shelf.rows place.0 n)
-          (AllFrom-others (λ k x. IsBatchRow m.cells (portions shelf.rows) d x) (λ k x. IsBatchRow m.cells (portions (put_row n shelf.rows)) d x) 0 shelf.rows place.0 n
+          subst (AllByRecursion (IsBatchRow m.cells (portions (put_row n processor_state.rows)) d)) (sym rows-are)
+          (AllFrom-each (λ k x. IsBatchRow m.cells (portions (put_row n processor_state.rows)) d x) (IsBatchRow m.cells (portions (put_row n processor_state.rows)) d) (λ k x p. p) 0 (slice_set processor_state.rows place.0 n)
+          (AllFrom-others (λ k x. IsBatchRow m.cells (portions processor_state.rows) d x) (λ k x. IsBatchRow m.cells (portions (put_row n processor_state.rows)) d x) 0 processor_state.rows place.0 n
           (λ k x at_k ne_k p. other-row d x k at_k p ne_k)
-          (λ k seg is. absurd (apart j lt ne ((All-get (OwnsRow w d.processor d.segment d.fence q) shelf.rows place.0 r (AllFrom-get (λ k x. AllByRecursion (OwnsRow w d.processor d.segment d.fence k) x.rows) 0 m.shelves b.processor shelf own.1 at q e) place.1 is).2)))
-          (AllFrom-of (IsBatchRow m.cells (portions shelf.rows) d) (λ k x. IsBatchRow m.cells (portions shelf.rows) d x) (λ k x p. p) 0 shelf.rows (AllFrom-get (IsBatchAt m.cells d) 0 m.shelves b.processor shelf k.rows at q e of))))
+          (λ k seg is. absurd (apart j lt ne ((All-get (OwnsRow w d.processor d.segment d.fence q) processor_state.rows place.0 r (AllFrom-get (λ k x. AllByRecursion (OwnsRow w d.processor d.segment d.fence k) x.rows) 0 m.processor_states b.processor processor_state own.1 at q e) place.1 is).2)))
+          (AllFrom-of (IsBatchRow m.cells (portions processor_state.rows) d) (λ k x. IsBatchRow m.cells (portions processor_state.rows) d x) (λ k x p. p) 0 processor_state.rows (AllFrom-get (IsBatchAt m.cells d) 0 m.processor_states b.processor processor_state k.rows at q e of))))
 
-  batches-after : AllByRecursion (λ x. IfSome x.batch (IsBatchIn m.setting m.cells shelves)) (slice_set m.desks actor desk)
+  batches-after : AllByRecursion (λ x. IfSome x.batch (IsBatchIn m.setting m.cells processor_states)) (slice_set m.desks actor desk)
   batches-after =
-      AllFrom-each (λ k x. IfSome x.batch (IsBatchIn m.setting m.cells shelves)) (λ x. IfSome x.batch (IsBatchIn m.setting m.cells shelves)) (λ k x p. p) 0 (slice_set m.desks actor desk)
-      (AllFrom-others (λ k x. IsSeat m.fence m.shelves (name_at m.setting.actors k) x × IfSome x.batch (IsBatchIn m.setting m.cells m.shelves)) (λ k x. IfSome x.batch (IsBatchIn m.setting m.cells shelves)) 0 m.desks actor desk
+      AllFrom-each (λ k x. IfSome x.batch (IsBatchIn m.setting m.cells processor_states)) (λ x. IfSome x.batch (IsBatchIn m.setting m.cells processor_states)) (λ k x p. p) 0 (slice_set m.desks actor desk)
+      (AllFrom-others (λ k x. IsDeskOf m.fence m.processor_states (name_at m.setting.actors k) x × IfSome x.batch (IsBatchIn m.setting m.cells m.processor_states)) (λ k x. IfSome x.batch (IsBatchIn m.setting m.cells processor_states)) 0 m.desks actor desk
       (λ k x e ne p. of-desk k x e ne p) (λ k. tt)
-      (AllFrom-zip (λ k x. IsSeat m.fence m.shelves (name_at m.setting.actors k) x) (λ x. IfSome x.batch (IsBatchIn m.setting m.cells m.shelves)) 0 m.desks h.desks h.batches))
+      (AllFrom-zip (λ k x. IsDeskOf m.fence m.processor_states (name_at m.setting.actors k) x) (λ x. IfSome x.batch (IsBatchIn m.setting m.cells m.processor_states)) 0 m.desks h.desks h.batches))
     where
-      of-desk : (k : ℕ) (x : Desk) → slice_get m.desks k ≡ Some x → (k ≡ actor → ⊥) → IsSeat m.fence m.shelves (name_at m.setting.actors (0 + k)) x × IfSome x.batch (IsBatchIn m.setting m.cells m.shelves) → IfSome x.batch (IsBatchIn m.setting m.cells shelves)
-      of-desk k x e ne p = by x.batch (let z : 0 + k ≡ k = omega arith in subst (λ (i : ℕ). IfSome x.batch (λ d. (d.fence ≤ m.fence) × OwnsAs (name_at m.setting.actors i) m.shelves d.processor d.segment d.fence)) z p.0.batch) p.1
+      of-desk : (k : ℕ) (x : Desk) → slice_get m.desks k ≡ Some x → (k ≡ actor → ⊥) → IsDeskOf m.fence m.processor_states (name_at m.setting.actors (0 + k)) x × IfSome x.batch (IsBatchIn m.setting m.cells m.processor_states) → IfSome x.batch (IsBatchIn m.setting m.cells processor_states)
+      of-desk k x e ne p = by x.batch (let z : 0 + k ≡ k = omega arith in subst (λ (i : ℕ). IfSome x.batch (λ d. (d.fence ≤ m.fence) × OwnsAs (name_at m.setting.actors i) m.processor_states d.processor d.segment d.fence)) z p.0.batch) p.1
         where
-          by : (o : Option Batch) → IfSome o (λ d. (d.fence ≤ m.fence) × OwnsAs (name_at m.setting.actors k) m.shelves d.processor d.segment d.fence) → IfSome o (IsBatchIn m.setting m.cells m.shelves) → IfSome o (IsBatchIn m.setting m.cells shelves)
+          by : (o : Option Batch) → IfSome o (λ d. (d.fence ≤ m.fence) × OwnsAs (name_at m.setting.actors k) m.processor_states d.processor d.segment d.fence) → IfSome o (IsBatchIn m.setting m.cells m.processor_states) → IfSome o (IsBatchIn m.setting m.cells processor_states)
           by None i j = tt
           by (Some d) i j = other-batch k x (get-within m.desks k x e) ne d i j
 
   -- ---- the whole
 
-  after-place : (k : ℕ) → k ≡ 0 + b.processor → first_failure rules (present_row m b.processor) [] xs ≡ None → IsPlace m.setting m.cells k after
-  after-place k e none = let same : b.processor ≡ k = omega arith in subst (λ (i : ℕ). IsPlace m.setting m.cells i after) same (record {
+  after-place : (k : ℕ) → k ≡ 0 + b.processor → first_failure rules (present_row m b.processor) [] xs ≡ None → IsProcessorState m.setting m.cells k after
+  after-place k e none = let same : b.processor ≡ k = omega arith in subst (λ (i : ℕ). IsProcessorState m.setting m.cells i after) same (record {
     parts = parts-after;
     tokens = tokens-after;
     folded = record { prefixes = prefixes-after; rows = rows-after none };
@@ -408,27 +407,27 @@ module _ (m : State) (actor : ℕ) (b : Batch) (shelf : Shelf) (r : TokenRow) (a
 
   pub kept-installed : first_failure rules (present_row m b.processor) [] xs ≡ None → IsWellFormed (installed m actor b r)
   kept-installed none =
-      subst (λ (x : Shelf). IsWellFormed (record m { shelves = slice_set m.shelves b.processor (record x { rows = put_row n x.rows }); desks = slice_set m.desks actor desk })) (sym is-shelf) (record {
+      subst (λ (x : ProcessorState). IsWellFormed (record m { processor_states = slice_set m.processor_states b.processor (record x { rows = put_row n x.rows }); desks = slice_set m.desks actor desk })) (sym is-processor_state) (record {
         sheet = h.sheet;
         log = h.log;
-        clock = record { limit = h.clock.limit; reserved = h.clock.reserved; kept = All-set (IsShelfBy m.clock) m.shelves b.processor after h.clock.kept (all-rows (λ x. x.since ≤ m.clock) (All-get (IsShelfBy m.clock) m.shelves b.processor shelf h.clock.kept at) (omega arith)) };
+        clock = record { limit = h.clock.limit; reserved = h.clock.reserved; kept = All-set (IsProcessorBy m.clock) m.processor_states b.processor after h.clock.kept (all-rows (λ x. x.since ≤ m.clock) (All-get (IsProcessorBy m.clock) m.processor_states b.processor processor_state h.clock.kept at) (omega arith)) };
         reserved = record {
           each = AllFrom-set (λ k d. HoldsCells m.cells (name_at m.setting.actors k) d) 0 m.desks actor desk h.reserved.each
               (AllFrom-at (λ k d. HoldsCells m.cells (name_at m.setting.actors k) d) 0 m.desks actor empty_desk h.reserved.each (λ k. tt));
           apart = λ i. let e : count (λ d. holds_cell i d.reservation) (slice_set m.desks actor desk) ≡ count (λ d. holds_cell i d.reservation) m.desks = count-set_same (λ d. holds_cell i d.reservation) m.desks actor empty_desk desk refl in
               let k : count (λ d. holds_cell i d.reservation) m.desks ≤ 1 = h.reserved.apart i in omega arith;
         };
-        places = AllFrom-set (IsPlace m.setting m.cells) 0 m.shelves b.processor after h.places (λ k e. after-place k e none);
-        declared = length-set m.shelves b.processor after ∙ h.declared;
+        processors = AllFrom-set (IsProcessorState m.setting m.cells) 0 m.processor_states b.processor after h.processors (λ k e. after-place k e none);
+        declared = length-set m.processor_states b.processor after ∙ h.declared;
         actors = length-set m.desks actor desk ∙ h.actors;
         fences = record {
-          distinct = λ f pos. (let e : fence_count f shelves ≡ fence_count f m.shelves = fences-same f m.shelves b.processor at in let k : fence_count f m.shelves ≤ 1 = h.fences.distinct f pos in omega arith);
-          within = (let old : AllByRecursion (λ x. (0 < x.fence) × (x.fence ≤ m.fence)) shelf.rows = All-get (IsFencedShelf m.fence) m.shelves b.processor shelf h.fences.within at in
-              All-set (IsFencedShelf m.fence) m.shelves b.processor after h.fences.within (all-rows (λ x. (0 < x.fence) × (x.fence ≤ m.fence)) old (All-get (λ x. (0 < x.fence) × (x.fence ≤ m.fence)) shelf.rows place.0 r old place.1)));
+          distinct = λ f pos. (let e : fence_count f processor_states ≡ fence_count f m.processor_states = fences-same f m.processor_states b.processor at in let k : fence_count f m.processor_states ≤ 1 = h.fences.distinct f pos in omega arith);
+          within = (let old : AllByRecursion (λ x. (0 < x.fence) × (x.fence ≤ m.fence)) processor_state.rows = All-get (IsFencedProcessor m.fence) m.processor_states b.processor processor_state h.fences.within at in
+              All-set (IsFencedProcessor m.fence) m.processor_states b.processor after h.fences.within (all-rows (λ x. (0 < x.fence) × (x.fence ≤ m.fence)) old (All-get (λ x. (0 < x.fence) × (x.fence ≤ m.fence)) processor_state.rows place.0 r old place.1)));
         };
-        desks = AllFrom-set (λ k d. IsSeat m.fence shelves (name_at m.setting.actors k) d) 0 m.desks actor desk
-            (AllFrom-map (λ k d. IsSeat m.fence m.shelves (name_at m.setting.actors k) d) (λ k d. IsSeat m.fence shelves (name_at m.setting.actors k) d) (λ k d. seat-after (name_at m.setting.actors k) d) 0 m.desks h.desks)
-            (λ k e. let old : IsSeat m.fence shelves (name_at m.setting.actors k) (desk_at m actor) = seat-after (name_at m.setting.actors k) (desk_at m actor) (AllFrom-at (λ k d. IsSeat m.fence m.shelves (name_at m.setting.actors k) d) 0 m.desks actor empty_desk h.desks (λ j. record { held = tt; batch = tt }) k e) in
+        desks = AllFrom-set (λ k d. IsDeskOf m.fence processor_states (name_at m.setting.actors k) d) 0 m.desks actor desk
+            (AllFrom-map (λ k d. IsDeskOf m.fence m.processor_states (name_at m.setting.actors k) d) (λ k d. IsDeskOf m.fence processor_states (name_at m.setting.actors k) d) (λ k d. seat-after (name_at m.setting.actors k) d) 0 m.desks h.desks)
+            (λ k e. let old : IsDeskOf m.fence processor_states (name_at m.setting.actors k) (desk_at m actor) = seat-after (name_at m.setting.actors k) (desk_at m actor) (AllFrom-at (λ k d. IsDeskOf m.fence m.processor_states (name_at m.setting.actors k) d) 0 m.desks actor empty_desk h.desks (λ j. record { held = tt; batch = tt }) k e) in
             record { held = old.held; batch = tt });
         batches = batches-after;
       })
@@ -447,42 +446,42 @@ kept-emptied m actor h = record {
     apart = λ i. let e : count (λ d. holds_cell i d.reservation) (slice_set m.desks actor desk) ≡ count (λ d. holds_cell i d.reservation) m.desks = count-set_same (λ d. holds_cell i d.reservation) m.desks actor empty_desk desk refl in
         let k : count (λ d. holds_cell i d.reservation) m.desks ≤ 1 = h.reserved.apart i in omega arith;
   };
-  places = h.places;
+  processors = h.processors;
   declared = h.declared;
   actors = length-set m.desks actor desk ∙ h.actors;
   fences = h.fences;
-  desks = AllFrom-set (λ k d. IsSeat m.fence m.shelves (name_at m.setting.actors k) d) 0 m.desks actor desk h.desks
-      (λ k e. let old : IsSeat m.fence m.shelves (name_at m.setting.actors k) (desk_at m actor) = AllFrom-at (λ k d. IsSeat m.fence m.shelves (name_at m.setting.actors k) d) 0 m.desks actor empty_desk h.desks (λ j. record { held = tt; batch = tt }) k e in record { held = old.held; batch = tt });
-  batches = All-set (λ d. IfSome d.batch (IsBatchIn m.setting m.cells m.shelves)) m.desks actor desk h.batches tt;
+  desks = AllFrom-set (λ k d. IsDeskOf m.fence m.processor_states (name_at m.setting.actors k) d) 0 m.desks actor desk h.desks
+      (λ k e. let old : IsDeskOf m.fence m.processor_states (name_at m.setting.actors k) (desk_at m actor) = AllFrom-at (λ k d. IsDeskOf m.fence m.processor_states (name_at m.setting.actors k) d) 0 m.desks actor empty_desk h.desks (λ j. record { held = tt; batch = tt }) k e in record { held = old.held; batch = tt });
+  batches = All-set (λ d. IfSome d.batch (IsBatchIn m.setting m.cells m.processor_states)) m.desks actor desk h.batches tt;
 }
   where
     desk : Desk
     desk = record (desk_at m actor) { batch = None }
 
 module _ (m : State) (actor : ℕ) (b : Batch) (mine : (desk_at m actor).batch ≡ Some b) (differ : IsTrue (names_differ m.setting.actors)) (h : IsWellFormed m) where
-  kept-committed : (shelf : Shelf) (r : TokenRow) → slice_get m.shelves b.processor ≡ Some shelf → row_at b.segment shelf.rows ≡ Some r → r.fence ≡ b.fence → (o : Option Failure)
+  kept-committed : (processor_state : ProcessorState) (r : TokenRow) → slice_get m.processor_states b.processor ≡ Some processor_state → row_at b.segment processor_state.rows ≡ Some r → r.fence ≡ b.fence → (o : Option Failure)
       → first_failure (projection_at m.setting b.processor) (present_row m b.processor) [] (batch_items m.setting.sheet.chain b (events m.cells)) ≡ o → IsWellFormed (committed m actor b r o).state
-  kept-committed shelf r at found fence (Some f) e = h
-  kept-committed shelf r at found fence None e = kept-installed m actor b shelf r at found fence mine differ h e
+  kept-committed processor_state r at found fence (Some f) e = h
+  kept-committed processor_state r at found fence None e = kept-installed m actor b processor_state r at found fence mine differ h e
 
-  kept-over : (shelf : Shelf) → slice_get m.shelves b.processor ≡ Some shelf → (o : Option TokenRow) → row_at b.segment shelf.rows ≡ o → IsWellFormed (commit_over m actor b o).state
-  kept-over shelf at None e = kept-emptied m actor h
-  kept-over shelf at (Some r) e = by (r.fence == b.fence) refl
+  kept-over : (processor_state : ProcessorState) → slice_get m.processor_states b.processor ≡ Some processor_state → (o : Option TokenRow) → row_at b.segment processor_state.rows ≡ o → IsWellFormed (commit_over m actor b o).state
+  kept-over processor_state at None e = kept-emptied m actor h
+  kept-over processor_state at (Some r) e = by (r.fence == b.fence) refl
     where
       done : Answer
       done = committed m actor b r (first_failure (projection_at m.setting b.processor) (present_row m b.processor) [] (batch_items m.setting.sheet.chain b (events m.cells)))
 
       by : (c : Bool) → (r.fence == b.fence) ≡ c → IsWellFormed (if c then done else answer (with_batch actor None m) (Reply.Stale b.fence (Some r.fence))).state
       by false k = kept-emptied m actor h
-      by true k = kept-committed shelf r at e (grind (arith, nat_tests, k)) (first_failure (projection_at m.setting b.processor) (present_row m b.processor) [] (batch_items m.setting.sheet.chain b (events m.cells))) refl
+      by true k = kept-committed processor_state r at e (grind (arith, nat_tests, k)) (first_failure (projection_at m.setting b.processor) (present_row m b.processor) [] (batch_items m.setting.sheet.chain b (events m.cells))) refl
 
-  kept-batch : (o : Option Shelf) → slice_get m.shelves b.processor ≡ o → IsWellFormed (commit_over m actor b (row_at b.segment (option_or empty_shelf o).rows)).state
+  kept-batch : (o : Option ProcessorState) → slice_get m.processor_states b.processor ≡ o → IsWellFormed (commit_over m actor b (row_at b.segment (option_or empty_processor o).rows)).state
   kept-batch None e = kept-emptied m actor h
-  kept-batch (Some shelf) e = kept-over shelf e (row_at b.segment shelf.rows) refl
+  kept-batch (Some processor_state) e = kept-over processor_state e (row_at b.segment processor_state.rows) refl
 
 pub kept-commit : (m : State) (actor : ℕ) → IsTrue (names_differ m.setting.actors) → IsWellFormed m → IsWellFormed (commit m actor).state
 kept-commit m actor differ h = by (desk_at m actor).batch refl
   where
     by : (o : Option Batch) → (desk_at m actor).batch ≡ o → IsWellFormed (commit_batch m actor o).state
     by None e = h
-    by (Some b) e = kept-batch m actor b e differ h (slice_get m.shelves b.processor) refl
+    by (Some b) e = kept-batch m actor b e differ h (slice_get m.processor_states b.processor) refl

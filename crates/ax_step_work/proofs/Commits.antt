@@ -11,26 +11,26 @@ use Rattle.ax_rules.specs.Expr.{Row}
 use Rattle.ax_rules.specs.Rules.{Rules, fold_items, start_row, row_or}
 use Rattle.ax_rules.specs.Why.{why_text}
 use Rattle.ax_segments.specs.Segments.{hash_of, matches}
-use Rattle.ax_upcast.specs.Upcast.{IsFew}
+use Rattle.ax_upcast.specs.Upcast.{KeepsLimit}
 use Rattle.ax_projections.specs.Table.{Entry, look_up, put_entry}
 use Rattle.ax_projections.specs.Items.{Placed, plain_items}
 use Rattle.ax_projections.specs.Rebuild.{or_start}
 use Rattle.ax_claims.specs.Rows.{TokenRow, row_at, put_row}
 use Rattle.ax_state.specs.Every.{AllFrom, count, option_or}
 use Rattle.ax_state.specs.Setting.{is_projection, projection_at}
-use Rattle.ax_state.specs.State.{State, Shelf, Desk, Batch, shelf_at, desk_at, empty_desk, empty_shelf}
+use Rattle.ax_state.specs.State.{State, ProcessorState, Desk, Batch, processor_state_at, desk_at, empty_desk, empty_processor}
 use Rattle.ax_state.specs.Answer.{Answer, answer}
 use Rattle.ax_state.specs.Portions.{portions, covered_events, items_in, row_by}
 use Rattle.ax_state.specs.WellFormed.{IsBatchIn}
 use Rattle.ax_state.proofs.Lists.{All-at, AllFrom-set, AllFrom-get}
-use Rattle.ax_world.specs.Whole.{Whole, Place, empty_place, state_of, place_at}
-use Rattle.ax_world.specs.Made.{made, made_all, with_place, with_shelf}
+use Rattle.ax_world.specs.WorldTables.{WorldTables, ProcessorTables, no_tables, state_of, processor_tables_at}
+use Rattle.ax_world.specs.EditsApplied.{edit_applied, edits_applied, with_processor_tables, with_state}
 use Rattle.ax_world.specs.Fits.{IsWorld, IsTable, CanMakeAll, is_cells, row_if, folded_row}
 use Rattle.ax_world.specs.Moves.{IsMove}
-use Rattle.ax_world.proofs.Kept.{map_set, set_same}
-use Rattle.ax_world.proofs.Moves.{unmoved, moved}
+use Rattle.ax_world.proofs.OneProcessorChanges.{map_set, set_same}
+use Rattle.ax_world.proofs.StepMoves.{unmoved, moved}
 use Rattle.ax_world.proofs.Projections.{projection-within}
-use Rattle.ax_world.proofs.Shelves.{get-at, shelf-place}
+use Rattle.ax_world.proofs.ProcessorStates.{get-at, processor_state-place}
 use Rattle.ax_step_work.specs.Working.{Failure, first_failure, share_of, present_row, batch_items, installed, committed, commit_over, with_batch}
 use Rattle.ax_step_work.specs.Handling.{Progress, nothing, first_of, present, handled, IsFitting, row_edits, stored_or}
 use Rattle.ax_step_work.proofs.CommitKept.{kept-emptied, kept-installed, added, row-after, present-is, IsAdded}
@@ -46,6 +46,7 @@ use Rattle.ax_upcast.specs.declared.upcaster.Upcaster.{Upcaster}
 use Rattle.ax_world.specs.declared.edit.Edit.{Edit}
 use Rattle.ax_world.specs.declared.edit.Move.{Move}
 use Rattle.ax_values.specs.declared.cell.Cell.{Cell}
+use Rattle.ax_laws.proofs.Options.{both-ok}
 
 -- ---- edits
 
@@ -59,59 +60,59 @@ set-twice [] p x y = refl
 set-twice (z ∷ xs) zero x y = refl
 set-twice (z ∷ xs) (suc p) x y = ap (λ ys. z ∷ ys) (set-twice xs p x y)
 
-made-append : (es fs : List Edit) (w : Whole) → made_all (es ++ fs) w ≡ made_all fs (made_all es w)
+made-append : (es fs : List Edit) (w : WorldTables) → edits_applied (es ++ fs) w ≡ edits_applied fs (edits_applied es w)
 made-append [] fs w = refl
-made-append (e ∷ es) fs w = made-append es fs (made w e)
+made-append (e ∷ es) fs w = made-append es fs (edit_applied w e)
 
-can-append : (es fs : List Edit) (w : Whole) → CanMakeAll w es → CanMakeAll (made_all es w) fs → CanMakeAll w (es ++ fs)
+can-append : (es fs : List Edit) (w : WorldTables) → CanMakeAll w es → CanMakeAll (edits_applied es w) fs → CanMakeAll w (es ++ fs)
 can-append [] fs w h j = j
-can-append (e ∷ es) fs w h j = (h.0, can-append es fs (made w e) h.1 j)
+can-append (e ∷ es) fs w h j = (h.0, can-append es fs (edit_applied w e) h.1 j)
 
 count-rows : (p : ℕ) (es : List Entry) (fs : List Edit) → count is_cells (row_edits p es ++ fs) ≡ count is_cells fs
 count-rows p [] fs = refl
 count-rows p (e ∷ es) fs = let k : count is_cells (row_edits p es ++ fs) ≡ count is_cells fs = count-rows p es fs in omega (arith, k)
 
-abbrev with_table : List Entry → Place → Place
+abbrev with_table : List Entry → ProcessorTables → ProcessorTables
 with_table t x = record x { table = t }
 
-made-rows : (es : List Entry) (p : ℕ) (w : Whole) → p < length w.places → made_all (row_edits p es) w ≡ with_place p (with_table (put_entries es (place_at w p).table) (place_at w p)) w
-made-rows [] p w lt = sym (ap (λ ps. record w { places = ps }) (set_same empty_place w.places p))
+made-rows : (es : List Entry) (p : ℕ) (w : WorldTables) → p < length w.processor_tables → edits_applied (row_edits p es) w ≡ with_processor_tables p (with_table (put_entries es (processor_tables_at w p).table) (processor_tables_at w p)) w
+made-rows [] p w lt = sym (ap (λ ps. record w { processor_tables = ps }) (set_same no_tables w.processor_tables p))
 made-rows (e ∷ es) p w lt =
-    made-rows es p (with_place p x w) (let l : length (slice_set w.places p x) ≡ length w.places = length-set w.places p x in omega (arith, l, lt))
-    ∙ ap (λ (y : Place). with_place p (with_table (put_entries es y.table) y) (with_place p x w)) (set-here empty_place w.places p x lt)
-    ∙ ap (λ ps. record w { places = ps }) (set-twice w.places p x (with_table (put_entries es x.table) x))
+    made-rows es p (with_processor_tables p x w) (let l : length (slice_set w.processor_tables p x) ≡ length w.processor_tables = length-set w.processor_tables p x in omega (arith, l, lt))
+    ∙ ap (λ (y : ProcessorTables). with_processor_tables p (with_table (put_entries es y.table) y) (with_processor_tables p x w)) (set-here no_tables w.processor_tables p x lt)
+    ∙ ap (λ ps. record w { processor_tables = ps }) (set-twice w.processor_tables p x (with_table (put_entries es x.table) x))
   where
-    x : Place
-    x = with_table (put_entry e.name e.value (place_at w p).table) (place_at w p)
+    x : ProcessorTables
+    x = with_table (put_entry e.name e.value (processor_tables_at w p).table) (processor_tables_at w p)
 
-can-rows : (es : List Entry) (p : ℕ) (w : Whole) → p < length w.places → length (place_at w p).table + length es ≤ 4000000000 → CanMakeAll w (row_edits p es)
+can-rows : (es : List Entry) (p : ℕ) (w : WorldTables) → p < length w.processor_tables → length (processor_tables_at w p).table + length es ≤ 4000000000 → CanMakeAll w (row_edits p es)
 can-rows [] p w lt few = tt
 can-rows (e ∷ es) p w lt few = (
   (lt, λ none. omega (arith, few)),
-  can-rows es p (with_place p x w) (let l : length (slice_set w.places p x) ≡ length w.places = length-set w.places p x in omega (arith, l, lt))
-      (let same : length (place_at (with_place p x w) p).table ≡ length (put_entry e.name e.value (place_at w p).table) = ap (λ (y : Place). length y.table) (set-here empty_place w.places p x lt) in
-      let l : length (put_entry e.name e.value (place_at w p).table) ≤ suc (length (place_at w p).table) = length-put e.name e.value (place_at w p).table in omega (arith, same, l, few)),
+  can-rows es p (with_processor_tables p x w) (let l : length (slice_set w.processor_tables p x) ≡ length w.processor_tables = length-set w.processor_tables p x in omega (arith, l, lt))
+      (let same : length (processor_tables_at (with_processor_tables p x w) p).table ≡ length (put_entry e.name e.value (processor_tables_at w p).table) = ap (λ (y : ProcessorTables). length y.table) (set-here no_tables w.processor_tables p x lt) in
+      let l : length (put_entry e.name e.value (processor_tables_at w p).table) ≤ suc (length (processor_tables_at w p).table) = length-put e.name e.value (processor_tables_at w p).table in omega (arith, same, l, few)),
 )
   where
-    x : Place
-    x = with_table (put_entry e.name e.value (place_at w p).table) (place_at w p)
+    x : ProcessorTables
+    x = with_table (put_entry e.name e.value (processor_tables_at w p).table) (processor_tables_at w p)
 
 -- ---- a batch on a desk of a world
 
-module _ (w : Whole) (actor : ℕ) (b : Batch) (h : IsWorld w) (mine : (desk_at (state_of w) actor).batch ≡ Some b) where
+module _ (w : WorldTables) (actor : ℕ) (b : Batch) (h : IsWorld w) (mine : (desk_at (state_of w) actor).batch ≡ Some b) where
   abbrev m : State
   m = state_of w
 
-  in-batch : IsBatchIn w.setting w.cells m.shelves b
-  in-batch = subst (λ o. IfSome o (IsBatchIn w.setting w.cells m.shelves)) mine (All-at (λ d. IfSome d.batch (IsBatchIn w.setting w.cells m.shelves)) w.desks actor empty_desk h.state.batches tt)
+  in-batch : IsBatchIn w.setting w.cells m.processor_states b
+  in-batch = subst (λ o. IfSome o (IsBatchIn w.setting w.cells m.processor_states)) mine (All-at (λ d. IfSome d.batch (IsBatchIn w.setting w.cells m.processor_states)) w.desks actor empty_desk h.state.batches tt)
 
   pub batch-declared : is_projection w.setting b.processor ≡ true
   batch-declared = in-batch.declared
 
-  pub batch-within : b.processor < length w.places
+  pub batch-within : b.processor < length w.processor_tables
   batch-within =
-      let l : length (map (λ (x : Place). x.shelf) w.places) ≡ length w.places = length-map w.places (λ x. x.shelf) in
-      let d : length (map (λ (x : Place). x.shelf) w.places) ≡ length w.setting.processors = h.state.declared in
+      let l : length (map (λ (x : ProcessorTables). x.processor_state) w.processor_tables) ≡ length w.processor_tables = length-map w.processor_tables (λ x. x.processor_state) in
+      let d : length (map (λ (x : ProcessorTables). x.processor_state) w.processor_tables) ≡ length w.setting.processors = h.state.declared in
       let k : b.processor < length w.setting.processors = projection-within w.setting.processors b.processor batch-declared in omega arith
 
   abbrev emptied : Desk
@@ -122,8 +123,8 @@ module _ (w : Whole) (actor : ℕ) (b : Batch) (h : IsWorld w) (mine : (desk_at 
       subst (λ a. IsMove w a (record { edits = Edit.SetDesk actor emptied ∷ []; reply = reply; report = [] })) (sym is)
       (moved w (Edit.SetDesk actor emptied ∷ []) (answer (with_batch actor None m) reply) reply h (omega arith) (lt, tt) refl (kept-emptied m actor h.state) refl h.tables refl refl)
 
-  abbrev x : Place
-  x = place_at w b.processor
+  abbrev x : ProcessorTables
+  x = processor_tables_at w b.processor
 
   abbrev rules : Rules
   rules = projection_at w.setting b.processor
@@ -134,25 +135,25 @@ module _ (w : Whole) (actor : ℕ) (b : Batch) (h : IsWorld w) (mine : (desk_at 
   abbrev es : List Stored
   es = events w.cells
 
-  at-shelf : slice_get m.shelves b.processor ≡ Some (shelf_at m b.processor)
-  at-shelf = let l : length (map (λ (x : Place). x.shelf) w.places) ≡ length w.places = length-map w.places (λ x. x.shelf) in let k : b.processor < length w.places = batch-within in get-at empty_shelf m.shelves b.processor (omega arith)
+  at-processor_state : slice_get m.processor_states b.processor ≡ Some (processor_state_at m b.processor)
+  at-processor_state = let l : length (map (λ (x : ProcessorTables). x.processor_state) w.processor_tables) ≡ length w.processor_tables = length-map w.processor_tables (λ x. x.processor_state) in let k : b.processor < length w.processor_tables = batch-within in get-at empty_processor m.processor_states b.processor (omega arith)
 
-  there : slice_get m.shelves b.processor ≡ Some x.shelf
-  there = at-shelf ∙ ap Some (shelf-place w b.processor)
+  there : slice_get m.processor_states b.processor ≡ Some x.processor_state
+  there = at-processor_state ∙ ap Some (processor_state-place w b.processor)
 
   -- of the kept rows
   abbrev n : Name → ℕ
-  n a = length (items_in chain (covered_events (portions x.shelf.rows) es) a)
+  n a = length (items_in chain (covered_events (portions x.processor_state.rows) es) a)
 
   abbrev row_now : Name → Result Row Cause
-  row_now a = row_by rules chain (covered_events (portions x.shelf.rows) es) None [] a
+  row_now a = row_by rules chain (covered_events (portions x.processor_state.rows) es) None [] a
 
-  kept-is : (a : Name) → look_up a x.table ≡ row_if w.setting b.processor (covered_events (portions x.shelf.rows) es) x.shelf a (n a)
-  kept-is a = AllFrom-get (IsTable w.setting es) 0 w.places b.processor x h.tables (get-at empty_place w.places b.processor batch-within) b.processor (omega arith) a
+  kept-is : (a : Name) → look_up a x.table ≡ row_if w.setting b.processor (covered_events (portions x.processor_state.rows) es) x.processor_state a (n a)
+  kept-is a = AllFrom-get (IsTable w.setting es) 0 w.processor_tables b.processor x h.tables (get-at no_tables w.processor_tables b.processor batch-within) b.processor (omega arith) a
 
   no-row : (a : Name) → n a ≡ 0 → row_now a ≡ Ok (start_row rules.fields)
   no-row a e =
-      row-now rules chain (covered_events (portions x.shelf.rows) es) a ∙ ap (λ ys. fold_items rules (plain_items ys)) (empty (items_in chain (covered_events (portions x.shelf.rows) es) a) e)
+      row-now rules chain (covered_events (portions x.processor_state.rows) es) a ∙ ap (λ ys. fold_items rules (plain_items ys)) (empty (items_in chain (covered_events (portions x.processor_state.rows) es) a) e)
     where
       empty : (ys : List Placed) → length ys ≡ 0 → ys ≡ []
       empty [] e = refl
@@ -167,23 +168,23 @@ module _ (w : Whole) (actor : ℕ) (b : Batch) (h : IsWorld w) (mine : (desk_at 
           let z : n a ≡ 0 = grind (arith, nat_tests, e) in
           sym (ap (λ o. record { position = n a; row = row_or (start_row rules.fields) o }) (no-row a z) ∙ ap (λ k. record { position = k; row = start_row rules.fields }) z)
 
-  pub fitting : IsFew chain → length w.cells ≤ 200000 → IsFitting rules x.table nothing
+  pub fitting : KeepsLimit chain → length w.cells ≤ 200000 → IsFitting rules x.table nothing
   fitting few size = record {
-    positions = λ a. (let e : (or_start rules (look_up a x.table)).position ≡ n a = ap (λ (v : Positioned). v.position) (started a) in let k : n a ≤ 1600000 = covered-few chain (portions x.shelf.rows) a w.cells few size in omega (arith, e, k));
-    fields = λ a. ap (λ (v : Positioned). length v.row) (started a) ∙ folded-length rules chain (covered_events (portions x.shelf.rows) es) a;
+    positions = λ a. (let e : (or_start rules (look_up a x.table)).position ≡ n a = ap (λ (v : Positioned). v.position) (started a) in let k : n a ≤ 1600000 = covered-few chain (portions x.processor_state.rows) a w.cells few size in omega (arith, e, k));
+    fields = λ a. ap (λ (v : Positioned). length v.row) (started a) ∙ folded-length rules chain (covered_events (portions x.processor_state.rows) es) a;
     rows = omega arith;
   }
 
   rows-bound : IsDistinct same_name (map (λ e. e.name) x.table) → length w.cells ≤ 200000 → length x.table ≤ 200000
   rows-bound d size =
-      let k : length x.table ≤ length es = rows-few es x.table d (λ a none. kept-is a ∙ ap (λ ys. row_if w.setting b.processor (covered_events (portions x.shelf.rows) es) x.shelf a (length ys)) (no-items chain (portions x.shelf.rows) a es none)) in
+      let k : length x.table ≤ length es = rows-few es x.table d (λ a none. kept-is a ∙ ap (λ ys. row_if w.setting b.processor (covered_events (portions x.processor_state.rows) es) x.processor_state a (length ys)) (no-items chain (portions x.processor_state.rows) a es none)) in
       let l : length es ≤ length w.cells = events-few 0 w.cells in omega arith
 
   -- ---- a batch whose row is under its fence
 
-  module _ (r : TokenRow) (found : row_at b.segment x.shelf.rows ≡ Some r) (fence : r.fence ≡ b.fence) where
+  module _ (r : TokenRow) (found : row_at b.segment x.processor_state.rows ≡ Some r) (fence : r.fence ≡ b.fence) where
     present-here : (a : Name) → present_row m b.processor a ≡ row_or (start_row rules.fields) (row_now a)
-    present-here a = present-is m actor b x.shelf r there found fence mine h.setting.actors.differ h.state a
+    present-here a = present-is m actor b x.processor_state r there found fence mine h.setting.actors.differ h.state a
 
     first-stands : Stands rules x.table (present_row m b.processor) [] nothing
     first-stands = stands-first rules x.table (present_row m b.processor) (λ a. ap (λ (v : Positioned). v.row) (started a) ∙ sym (present-here a))
@@ -197,13 +198,13 @@ module _ (w : Whole) (actor : ℕ) (b : Batch) (h : IsWorld w) (mine : (desk_at 
     came : (o : Result Progress Failure) → handled rules x.table (plain_items xs) nothing ≡ o → outcome-of o
     came o e = outcome rules x.table (present_row m b.processor) xs [] nothing o first-stands e
 
-    over-is : commit_over m actor b (row_at b.segment (shelf_at m b.processor).rows) ≡ committed m actor b r (first_failure rules (present_row m b.processor) [] xs)
+    over-is : commit_over m actor b (row_at b.segment (processor_state_at m b.processor).rows) ≡ committed m actor b r (first_failure rules (present_row m b.processor) [] xs)
     over-is =
-        ap (λ (s : Shelf). commit_over m actor b (row_at b.segment s.rows)) (shelf-place w b.processor) ∙ ap (commit_over m actor b) found
+        ap (λ (s : ProcessorState). commit_over m actor b (row_at b.segment s.rows)) (processor_state-place w b.processor) ∙ ap (commit_over m actor b) found
         ∙ ap (λ c. if c then committed m actor b r (first_failure rules (present_row m b.processor) [] xs) else answer (with_batch actor None m) (Reply.Stale b.fence (Some r.fence))) (let t : (r.fence == b.fence) ≡ true = grind (arith, nat_tests, fence) in t)
 
     pub failed-move : (f : Failure) → handled rules x.table (plain_items xs) nothing ≡ Err f
-        → IsMove w (commit_over m actor b (row_at b.segment (shelf_at m b.processor).rows)) (record { edits = []; reply = Reply.NotApplied f.item (why_text (Why.Failed f.cause)); report = [] })
+        → IsMove w (commit_over m actor b (row_at b.segment (processor_state_at m b.processor).rows)) (record { edits = []; reply = Reply.NotApplied f.item (why_text (Why.Failed f.cause)); report = [] })
     failed-move f e =
         subst (λ a. IsMove w a (record { edits = []; reply = Reply.NotApplied f.item (why_text (Why.Failed f.cause)); report = [] })) (sym (over-is ∙ ap (committed m actor b r) (came (Err f) e)))
         (unmoved w (Reply.NotApplied f.item (why_text (Why.Failed f.cause))) h)
@@ -213,10 +214,10 @@ module _ (w : Whole) (actor : ℕ) (b : Batch) (h : IsWorld w) (mine : (desk_at 
       new = record r { token = b.new; since = w.clock }
 
       abbrev rows : List TokenRow
-      rows = put_row new x.shelf.rows
+      rows = put_row new x.processor_state.rows
 
-      abbrev later : Place
-      later = record { shelf = record x.shelf { rows = rows }; table = put_entries s.rows x.table }
+      abbrev later : ProcessorTables
+      later = record { processor_state = record x.processor_state { rows = rows }; table = put_entries s.rows x.table }
 
       abbrev changes : List Edit
       changes = row_edits b.processor s.rows ++ Edit.SetRows b.processor rows ∷ Edit.SetDesk actor emptied ∷ []
@@ -227,24 +228,24 @@ module _ (w : Whole) (actor : ℕ) (b : Batch) (h : IsWorld w) (mine : (desk_at 
       stands : Stands rules x.table (present_row m b.processor) xs s
       stands = (came (Ok s) done).1
 
-      more : IsAdded chain es x.shelf.rows rows b
-      more = added m actor b x.shelf r there found fence mine h.setting.actors.differ h.state
+      more : IsAdded chain es x.processor_state.rows rows b
+      more = added m actor b x.processor_state r there found fence mine h.setting.actors.differ h.state
 
       -- how many items are covered then
       now-covered : (a : Name) → length (items_in chain (covered_events (portions rows) es) a) ≡ n a + length (share_of a xs)
       now-covered a = by (matches b.segment (hash_of a)) refl
         where
-          by : (c : Bool) → matches b.segment (hash_of a) ≡ c → length (items_in chain (covered_events (portions rows) es) a) ≡ length (items_in chain (covered_events (portions x.shelf.rows) es) a) + length (share_of a xs)
-          by true e = ap length (more.mine a e) ∙ length-append (items_in chain (covered_events (portions x.shelf.rows) es) a) (share_of a xs)
-          by false e = let k : length (share_of a xs) ≡ 0 = ap length (more.none a e) in let l : length (items_in chain (covered_events (portions rows) es) a) ≡ length (items_in chain (covered_events (portions x.shelf.rows) es) a) = ap length (more.others a e) in omega (arith, k, l)
+          by : (c : Bool) → matches b.segment (hash_of a) ≡ c → length (items_in chain (covered_events (portions rows) es) a) ≡ length (items_in chain (covered_events (portions x.processor_state.rows) es) a) + length (share_of a xs)
+          by true e = ap length (more.mine a e) ∙ length-append (items_in chain (covered_events (portions x.processor_state.rows) es) a) (share_of a xs)
+          by false e = let k : length (share_of a xs) ≡ 0 = ap length (more.none a e) in let l : length (items_in chain (covered_events (portions rows) es) a) ≡ length (items_in chain (covered_events (portions x.processor_state.rows) es) a) = ap length (more.others a e) in omega (arith, k, l)
 
       row-then : (a : Name) → row_by rules chain (covered_events (portions rows) es) None [] a ≡ Ok (present rules x.table s.rows a).row
-      row-then a = row-after m actor b x.shelf r there found fence mine h.setting.actors.differ h.state a ∙ stands.behind a
+      row-then a = row-after m actor b x.processor_state r there found fence mine h.setting.actors.differ h.state a ∙ stands.behind a
 
       abbrev folded_then : Name → ℕ → Row → Option Positioned
       folded_then a k row = if nat_lt 0 k then Some (record { position = k; row = row }) else None
 
-      is-folded : (a : Name) → folded_row w.setting b.processor (covered_events (portions rows) es) later.shelf a ≡ folded_then a (n a + length (share_of a xs)) (present rules x.table s.rows a).row
+      is-folded : (a : Name) → folded_row w.setting b.processor (covered_events (portions rows) es) later.processor_state a ≡ folded_then a (n a + length (share_of a xs)) (present rules x.table s.rows a).row
       is-folded a =
           ap (λ o. folded_then a (length (items_in chain (covered_events (portions rows) es) a)) (row_or (start_row rules.fields) o)) (row-then a)
           ∙ ap (λ k. folded_then a k (present rules x.table s.rows a).row) (now-covered a)
@@ -267,43 +268,43 @@ module _ (w : Whole) (actor : ℕ) (b : Batch) (h : IsWorld w) (mine : (desk_at 
               same-kept : folded_then a (n a) (row_or (start_row rules.fields) (row_now a)) ≡ look_up a x.table
               same-kept = sym (kept-is a)
 
-      made-is : made_all changes w ≡ record w { places = slice_set w.places b.processor later; desks = slice_set w.desks actor emptied }
+      made-is : edits_applied changes w ≡ record w { processor_tables = slice_set w.processor_tables b.processor later; desks = slice_set w.desks actor emptied }
       made-is =
           made-append (row_edits b.processor s.rows) (Edit.SetRows b.processor rows ∷ Edit.SetDesk actor emptied ∷ []) w
-          ∙ ap (λ (u : Whole). made_all (Edit.SetRows b.processor rows ∷ Edit.SetDesk actor emptied ∷ []) u) (made-rows s.rows b.processor w batch-within)
-          ∙ ap (λ (y : Place). record w { places = slice_set (slice_set w.places b.processor (with_table (put_entries s.rows x.table) x)) b.processor (with_shelf (record y.shelf { rows = rows }) y); desks = slice_set w.desks actor emptied })
-          (set-here empty_place w.places b.processor (with_table (put_entries s.rows x.table) x) batch-within)
-          ∙ ap (λ ps. record w { places = ps; desks = slice_set w.desks actor emptied }) (set-twice w.places b.processor (with_table (put_entries s.rows x.table) x) later)
+          ∙ ap (λ (u : WorldTables). edits_applied (Edit.SetRows b.processor rows ∷ Edit.SetDesk actor emptied ∷ []) u) (made-rows s.rows b.processor w batch-within)
+          ∙ ap (λ (y : ProcessorTables). record w { processor_tables = slice_set (slice_set w.processor_tables b.processor (with_table (put_entries s.rows x.table) x)) b.processor (with_state (record y.processor_state { rows = rows }) y); desks = slice_set w.desks actor emptied })
+          (set-here no_tables w.processor_tables b.processor (with_table (put_entries s.rows x.table) x) batch-within)
+          ∙ ap (λ ps. record w { processor_tables = ps; desks = slice_set w.desks actor emptied }) (set-twice w.processor_tables b.processor (with_table (put_entries s.rows x.table) x) later)
 
-      state-is : state_of (made_all changes w) ≡ installed m actor b r
+      state-is : state_of (edits_applied changes w) ≡ installed m actor b r
       state-is =
           ap state_of made-is
-          ∙ ap (λ ss. record m { shelves = ss; desks = slice_set w.desks actor emptied }) (map_set (λ x. x.shelf) w.places b.processor later)
-          ∙ ap (λ (t : Shelf). record m { shelves = slice_set m.shelves b.processor (record t { rows = put_row new t.rows }); desks = slice_set w.desks actor emptied }) (sym (shelf-place w b.processor))
+          ∙ ap (λ ss. record m { processor_states = ss; desks = slice_set w.desks actor emptied }) (map_set (λ x. x.processor_state) w.processor_tables b.processor later)
+          ∙ ap (λ (t : ProcessorState). record m { processor_states = slice_set m.processor_states b.processor (record t { rows = put_row new t.rows }); desks = slice_set w.desks actor emptied }) (sym (processor_state-place w b.processor))
 
-      tables-then : AllFrom (IsTable w.setting es) 0 (slice_set w.places b.processor later)
-      tables-then = AllFrom-set (IsTable w.setting es) 0 w.places b.processor later h.tables (λ k e. let same : b.processor ≡ k = omega arith in subst (λ (i : ℕ). IsTable w.setting es i later) same table-then)
+      tables-then : AllFrom (IsTable w.setting es) 0 (slice_set w.processor_tables b.processor later)
+      tables-then = AllFrom-set (IsTable w.setting es) 0 w.processor_tables b.processor later h.tables (λ k e. let same : b.processor ≡ k = omega arith in subst (λ (i : ℕ). IsTable w.setting es i later) same table-then)
 
       can-all : actor < length w.desks → length x.table ≤ 200000 → length s.rows ≤ 1600000 → CanMakeAll w changes
       can-all lt few rows_few =
           can-append (row_edits b.processor s.rows) (Edit.SetRows b.processor rows ∷ Edit.SetDesk actor emptied ∷ []) w (can-rows s.rows b.processor w batch-within (omega arith))
-          (subst (λ (u : Whole). CanMakeAll u (Edit.SetRows b.processor rows ∷ Edit.SetDesk actor emptied ∷ [])) (sym (made-rows s.rows b.processor w batch-within))
-          ((let l : length (slice_set w.places b.processor (with_table (put_entries s.rows x.table) x)) ≡ length w.places = length-set w.places b.processor (with_table (put_entries s.rows x.table) x) in let k : b.processor < length w.places = batch-within in omega (arith, l, k)), (lt, tt)))
+          (subst (λ (u : WorldTables). CanMakeAll u (Edit.SetRows b.processor rows ∷ Edit.SetDesk actor emptied ∷ [])) (sym (made-rows s.rows b.processor w batch-within))
+          ((let l : length (slice_set w.processor_tables b.processor (with_table (put_entries s.rows x.table) x)) ≡ length w.processor_tables = length-set w.processor_tables b.processor (with_table (put_entries s.rows x.table) x) in let k : b.processor < length w.processor_tables = batch-within in omega (arith, l, k)), (lt, tt)))
 
-      rows-within : IsFew chain → length w.cells ≤ 200000 → length s.rows ≤ 1600000
+      rows-within : KeepsLimit chain → length w.cells ≤ 200000 → length s.rows ≤ 1600000
       rows-within few size =
           let fit = fitting-items rules x.table (plain_items xs) nothing s (fitting few size) done in
           let k : length s.rows ≤ s.items = fit.0.rows in
           let l : s.items ≡ length xs = stands.items in
           let n : length xs ≤ 1600000 = batch-few chain b w.cells few size in omega arith
 
-      pub installed-move : actor < length w.desks → IsDistinct same_name (map (λ e. e.name) x.table) → length w.cells ≤ 200000 → IsFew chain
-          → IsMove w (commit_over m actor b (row_at b.segment (shelf_at m b.processor).rows)) (record { edits = changes; reply = Reply.Committed s.items 0 0; report = [] })
+      pub installed-move : actor < length w.desks → IsDistinct same_name (map (λ e. e.name) x.table) → length w.cells ≤ 200000 → KeepsLimit chain
+          → IsMove w (commit_over m actor b (row_at b.segment (processor_state_at m b.processor).rows)) (record { edits = changes; reply = Reply.Committed s.items 0 0; report = [] })
       installed-move lt distinct size few =
           subst (λ a. IsMove w a (record { edits = changes; reply = Reply.Committed s.items 0 0; report = [] })) (sym (over-is ∙ ap (committed m actor b r) all-apply))
           (moved w changes (answer (installed m actor b r) (Reply.Committed (length xs) 0 0)) (Reply.Committed s.items 0 0) h (let k : count is_cells changes ≡ 0 = count-rows b.processor s.rows (Edit.SetRows b.processor rows ∷ Edit.SetDesk actor emptied ∷ []) in omega (arith, k))
-          (can-all lt (rows-bound distinct size) (rows-within few size)) state-is (kept-installed m actor b x.shelf r there found fence mine h.setting.actors.differ h.state all-apply)
-          (ap (λ (u : Whole). u.setting) made-is) (subst (λ (u : Whole). AllFrom (IsTable w.setting (events u.cells)) 0 u.places) (sym made-is) tables-then) (ap (λ k. Reply.Committed k 0 0) stands.items) refl)
+          (can-all lt (rows-bound distinct size) (rows-within few size)) state-is (kept-installed m actor b x.processor_state r there found fence mine h.setting.actors.differ h.state all-apply)
+          (ap (λ (u : WorldTables). u.setting) made-is) (subst (λ (u : WorldTables). AllFrom (IsTable w.setting (events u.cells)) 0 u.processor_tables) (sym made-is) tables-then) (ap (λ k. Reply.Committed k 0 0) stands.items) refl)
 
 -- ---- what the calls answered
 
@@ -332,37 +333,33 @@ stale-over m actor now b old (Some r) reply e = by (r.fence == b.fence) refl e
         ap (λ c. if c then committed m actor b r (first_failure (projection_at m.setting b.processor) (present_row m b.processor) [] (batch_items m.setting.sheet.chain b (events m.cells))) else answer (with_batch actor None m) (Reply.Stale b.fence (Some r.fence))) k
         ∙ ap (answer (with_batch actor None m)) (sym is)
 
-pub both-ok : {A B : Type 0} (P Q : A → Type 0) (o : Result A B) → IfOk o P → IfOk o Q → IfOk o (λ x. P x × Q x)
-both-ok P Q (Ok x) p q = (p, q)
-both-ok P Q (Err e) p q = tt
-
-module _ (w : Whole) (actor : ℕ) (b : Batch) (h : IsWorld w) (mine : (desk_at (state_of w) actor).batch ≡ Some b) where
+module _ (w : WorldTables) (actor : ℕ) (b : Batch) (h : IsWorld w) (mine : (desk_at (state_of w) actor).batch ≡ Some b) where
   abbrev over : Answer
-  over = commit_over (state_of w) actor b (row_at b.segment (shelf_at (state_of w) b.processor).rows)
+  over = commit_over (state_of w) actor b (row_at b.segment (processor_state_at (state_of w) b.processor).rows)
 
-  pub stale-answer : (now : ℕ) (old : List TokenRow) (reply : Reply) (mv : Move) → actor < length w.desks → old ≡ (place_at w b.processor).shelf.rows → Err reply ≡ stored_or now b old (row_at b.segment old)
+  pub stale-answer : (now : ℕ) (old : List TokenRow) (reply : Reply) (mv : Move) → actor < length w.desks → old ≡ (processor_tables_at w b.processor).processor_state.rows → Err reply ≡ stored_or now b old (row_at b.segment old)
       → mv ≡ record { edits = Edit.SetDesk actor (record (desk_at (state_of w) actor) { batch = None }) ∷ []; reply = reply; report = [] } → IsMove w over mv
   stale-answer now old reply mv lt rows e is =
       subst (IsMove w over) (sym is)
       (emptied-move w actor b h mine over reply lt
-      (ap (λ (s : Shelf). commit_over (state_of w) actor b (row_at b.segment s.rows)) (shelf-place w b.processor) ∙ ap (λ rs. commit_over (state_of w) actor b (row_at b.segment rs)) (sym rows) ∙ stale-over (state_of w) actor now b old (row_at b.segment old) reply e))
+      (ap (λ (s : ProcessorState). commit_over (state_of w) actor b (row_at b.segment s.rows)) (processor_state-place w b.processor) ∙ ap (λ rs. commit_over (state_of w) actor b (row_at b.segment rs)) (sym rows) ∙ stale-over (state_of w) actor now b old (row_at b.segment old) reply e))
 
-  module _ (p : ℕ) (rs : Rules) (table : List Entry) (us : List Upcaster) (at : p ≡ b.processor) (rules_are : rs ≡ projection_at w.setting p) (table_is : table ≡ (place_at w p).table) (chain_is : us ≡ w.setting.sheet.chain) where
-    pub fits-read : IsFew us → IsFitting rs table nothing
-    fits-read few = rw (rules_are, table_is, at) (fitting w actor b h mine (subst IsFew chain_is few) h.state.log.size)
+  module _ (p : ℕ) (rs : Rules) (table : List Entry) (us : List Upcaster) (at : p ≡ b.processor) (rules_are : rs ≡ projection_at w.setting p) (table_is : table ≡ (processor_tables_at w p).table) (chain_is : us ≡ w.setting.sheet.chain) where
+    pub fits-read : KeepsLimit us → IsFitting rs table nothing
+    fits-read few = rw (rules_are, table_is, at) (fitting w actor b h mine (subst KeepsLimit chain_is few) h.state.log.size)
 
-    module _ (cs : List Cell) (cells_are : cs ≡ w.cells) (rows : List TokenRow) (stored : Ok rows ≡ stored_or w.clock b (place_at w b.processor).shelf.rows (row_at b.segment (place_at w b.processor).shelf.rows)) where
-      was-stored : IsStored w.clock b (place_at w b.processor).shelf.rows (row_at b.segment (place_at w b.processor).shelf.rows) rows
-      was-stored = stored-rows w.clock b (place_at w b.processor).shelf.rows (row_at b.segment (place_at w b.processor).shelf.rows) rows stored
+    module _ (cs : List Cell) (cells_are : cs ≡ w.cells) (rows : List TokenRow) (stored : Ok rows ≡ stored_or w.clock b (processor_tables_at w b.processor).processor_state.rows (row_at b.segment (processor_tables_at w b.processor).processor_state.rows)) where
+      was-stored : IsStored w.clock b (processor_tables_at w b.processor).processor_state.rows (row_at b.segment (processor_tables_at w b.processor).processor_state.rows) rows
+      was-stored = stored-rows w.clock b (processor_tables_at w b.processor).processor_state.rows (row_at b.segment (processor_tables_at w b.processor).processor_state.rows) rows stored
 
-      same-handled : handled (projection_at w.setting b.processor) (place_at w b.processor).table (plain_items (batch_items w.setting.sheet.chain b (events w.cells))) nothing ≡ handled rs table (plain_items (batch_items us b (events cs))) nothing
+      same-handled : handled (projection_at w.setting b.processor) (processor_tables_at w b.processor).table (plain_items (batch_items w.setting.sheet.chain b (events w.cells))) nothing ≡ handled rs table (plain_items (batch_items us b (events cs))) nothing
       same-handled = rw (rules_are, table_is, at, chain_is, cells_are) refl
 
       pub failed-answer : (f : Failure) (mv : Move) → Err f ≡ handled rs table (plain_items (batch_items us b (events cs))) nothing
           → mv ≡ record { edits = []; reply = Reply.NotApplied f.item (why_text (Why.Failed f.cause)); report = [] } → IsMove w over mv
       failed-answer f mv e is = subst (IsMove w over) (sym is) (failed-move w actor b h mine was-stored.row was-stored.found was-stored.fence f (same-handled ∙ sym e))
 
-      pub installed-answer : (s : Progress) (mv : Move) → Ok s ≡ handled rs table (plain_items (batch_items us b (events cs))) nothing → IsFew us → IsDistinct same_name (map (λ e. e.name) table) → IsDistinct same_name (map (λ e. e.name) s.rows)
+      pub installed-answer : (s : Progress) (mv : Move) → Ok s ≡ handled rs table (plain_items (batch_items us b (events cs))) nothing → KeepsLimit us → IsDistinct same_name (map (λ e. e.name) table) → IsDistinct same_name (map (λ e. e.name) s.rows)
           → actor < length w.desks
           → mv ≡ record { edits = row_edits p s.rows ++ Edit.SetRows p rows ∷ Edit.SetDesk actor (record (desk_at (state_of w) actor) { batch = None }) ∷ []; reply = Reply.Committed s.items 0 0; report = [] } → IsMove w over mv
       installed-answer s mv e few distinct names lt is =
@@ -370,5 +367,5 @@ module _ (w : Whole) (actor : ℕ) (b : Batch) (h : IsWorld w) (mine : (desk_at 
           subst (IsMove w over) (sym is)
           (subst (λ (q : ℕ). IsMove w over (with_edits q rows)) (sym at)
           (subst (λ (ts : List TokenRow). IsMove w over (with_edits b.processor ts)) (sym was-stored.rows_are)
-          (installed-move w actor b h mine was-stored.row was-stored.found was-stored.fence s (same-handled ∙ sym e) names lt (subst (λ t. IsDistinct same_name (map (λ e. e.name) t)) (table_is ∙ ap (λ q. (place_at w q).table) at) distinct) h.state.log.size
-          (subst IsFew chain_is few))))
+          (installed-move w actor b h mine was-stored.row was-stored.found was-stored.fence s (same-handled ∙ sym e) names lt (subst (λ t. IsDistinct same_name (map (λ e. e.name) t)) (table_is ∙ ap (λ q. (processor_tables_at w q).table) at) distinct) h.state.log.size
+          (subst KeepsLimit chain_is few))))

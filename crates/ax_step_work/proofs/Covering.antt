@@ -6,12 +6,12 @@ use Rattle.std.specs.Ordering.{match_ordering}
 use Rattle.std.proofs.lemmas.Bool.Decides.{nat_tests}
 use Rattle.ax_values.specs.Grammar.{Name}
 use Rattle.ax_values.specs.Words.{rises}
-use Rattle.ax_values.proofs.Options.{both}
+use Rattle.ax_laws.proofs.Tests.{both}
 use Rattle.ax_log.specs.Log.{Stored, events_from, events, stream_in, is_of, is_reserved, is_settled, option_is}
 use Rattle.ax_segments.specs.Segments.{hash_of, matches}
 use Rattle.ax_tokens.specs.Tokens.{covers}
 use Rattle.ax_claims.specs.Rows.{TokenRow, AreRows, put_row, row_cmp, row_below}
-use Rattle.ax_claims.proofs.Places.{put-here, rises-above}
+use Rattle.ax_claims.proofs.RowPlaces.{put-here, rises-above}
 use Rattle.ax_state.specs.Portions.{Portion, portion_of, portions, put_portion, portion_covers, covered_by}
 use Rattle.ax_state.specs.WellFormed.{AreParts, is_prefix_test}
 use Rattle.ax_values.specs.declared.cell.Cell.{Cell}

@@ -5,7 +5,7 @@ use Rattle.std.specs.List.{AllByRecursion}
 use Rattle.std.proofs.lemmas.Bool.Decides.{nat_tests}
 use Rattle.std.proofs.lemmas.List.{length-set}
 use Rattle.ax_values.specs.Grammar.{Name}
-use Rattle.ax_values.proofs.Options.{both}
+use Rattle.ax_laws.proofs.Tests.{both}
 use Rattle.ax_log.specs.Log.{Stored, events, stream_in, is_settled}
 use Rattle.ax_segments.specs.Segments.{Segment, hash_of, matches, same_segment}
 use Rattle.ax_tokens.specs.Plain.{settles}
@@ -14,16 +14,17 @@ use Rattle.ax_tokens.proofs.Changes.{covers-advanced, covers-collapsed}
 use Rattle.ax_claims.specs.Rows.{TokenRow, row_at, put_row}
 use Rattle.ax_state.specs.Every.{AllFrom, count, option_or}
 use Rattle.ax_state.specs.Setting.{name_at, is_projection}
-use Rattle.ax_state.specs.State.{State, Shelf, Held, Desk, Batch, desk_at, shelf_at, empty_desk, empty_shelf}
+use Rattle.ax_state.specs.State.{State, ProcessorState, Held, Desk, Batch, desk_at, processor_state_at, empty_desk, empty_processor}
 use Rattle.ax_state.specs.Holding.{is_held_at, held_fence, held_check, checked}
 use Rattle.ax_state.specs.Portions.{Portion, portions, put_portion, covered_by}
-use Rattle.ax_state.specs.WellFormed.{IsWellFormed, IsSeat, IsPlace, IsTokenOver, AreTokens, CoverPrefix, IsStanding, IsBatchRow, IsBatchAt, IsBatchIn, OwnsAs, HoldsCells, holds_cell, is_prefix_test}
+use Rattle.ax_state.specs.WellFormed.{IsWellFormed, IsDeskOf, IsProcessorState, IsTokenOver, AreTokens, CoverPrefix, IsStanding, IsBatchRow, IsBatchAt, IsBatchIn, OwnsAs, HoldsCells, holds_cell, is_prefix_test}
 use Rattle.ax_state.proofs.Lists.{All-map, All-set, AllFrom-set, AllFrom-at, AllFrom-get, count-set_same}
-use Rattle.ax_state.proofs.Puts.{found-row}
+use Rattle.ax_state.proofs.RowPuts.{found-row}
 use Rattle.ax_step_work.specs.Working.{is_new, new_below, is_fetchable, largest, fetch_bound, batch_of, fetched, fetch_at}
 use Rattle.ax_step_work.proofs.Advancing.{token-advanced, advance-adds, advanced-none}
 use Rattle.ax_step_work.proofs.Covering.{IsChanged, changed, covered-here, one-place, rows-of, hash-small, rising-stream, settled-stream, prefix-grows, same-tests}
 use Rattle.ax_journal.specs.declared.reply.Reply.{Reply}
+use Rattle.ax_claims.proofs.RowPlaces.{same-segment}
 
 -- ---- the bound
 
@@ -50,33 +51,26 @@ held-found : (P : Held → Type 0) (p : ℕ) (s : Segment) (hs : List Held) (f :
 held-found P p s [] f e all = absurd (cc)
 held-found P p s (x ∷ hs) f e all = held-by P p s (is_held_at p s x) x hs f refl e all.0 (λ k. held-found P p s hs f k all.1)
 
-same-segment : (s t : Segment) → same_segment s t ≡ true → s ≡ t
-same-segment s t h =
-    let b = both (s.id == t.id) (s.mask == t.mask) h in
-    let id : s.id ≡ t.id = grind (arith, nat_tests, b.0) in
-    let mask : s.mask ≡ t.mask = grind (arith, nat_tests, b.1) in
-    ap (λ i. record { id = i; mask = s.mask }) id ∙ ap (λ m. record { id = t.id; mask = m }) mask
-
 -- what is known of a fence that a desk holds for a segment
-pub owned : (fence : ℕ) (shelves : List Shelf) (actor : Name) (desk : Desk) (p : ℕ) (s : Segment) (f : ℕ) → IsSeat fence shelves actor desk → held_fence p s desk.held ≡ Some f → (f ≤ fence) × OwnsAs actor shelves p s f
-owned fence shelves actor desk p s f seat e =
-    let found = held-found (λ h. (h.fence ≤ fence) × OwnsAs actor shelves h.processor h.segment h.fence) p s desk.held f e seat.held in
+pub owned : (fence : ℕ) (processor_states : List ProcessorState) (actor : Name) (desk : Desk) (p : ℕ) (s : Segment) (f : ℕ) → IsDeskOf fence processor_states actor desk → held_fence p s desk.held ≡ Some f → (f ≤ fence) × OwnsAs actor processor_states p s f
+owned fence processor_states actor desk p s f seat e =
+    let found = held-found (λ h. (h.fence ≤ fence) × OwnsAs actor processor_states h.processor h.segment h.fence) p s desk.held f e seat.held in
     let b = both (found.0.processor == p) (same_segment found.0.segment s) found.2 in
     let is_p : found.0.processor ≡ p = grind (arith, nat_tests, b.0) in
     let is_s : found.0.segment ≡ s = same-segment found.0.segment s b.1 in
-    let known : (found.0.fence ≤ fence) × OwnsAs actor shelves found.0.processor found.0.segment found.0.fence = found.1 in
-    subst (λ g. (g ≤ fence) × OwnsAs actor shelves p s g) found.3
-    (subst (λ t. (found.0.fence ≤ fence) × OwnsAs actor shelves p t found.0.fence) is_s
-    (subst (λ q. (found.0.fence ≤ fence) × OwnsAs actor shelves q found.0.segment found.0.fence) is_p known))
+    let known : (found.0.fence ≤ fence) × OwnsAs actor processor_states found.0.processor found.0.segment found.0.fence = found.1 in
+    subst (λ g. (g ≤ fence) × OwnsAs actor processor_states p s g) found.3
+    (subst (λ t. (found.0.fence ≤ fence) × OwnsAs actor processor_states p t found.0.fence) is_s
+    (subst (λ q. (found.0.fence ≤ fence) × OwnsAs actor processor_states q found.0.segment found.0.fence) is_p known))
 
 -- ---- the batch
 
-module _ (m : State) (actor p : ℕ) (s : Segment) (most : ℕ) (shelf : Shelf) (r : TokenRow) (at : slice_get m.shelves p ≡ Some shelf) (found : row_at s shelf.rows ≡ Some r) (h : IsWellFormed m) where
-  was : IsPlace m.setting m.cells p shelf
-  was = AllFrom-get (IsPlace m.setting m.cells) 0 m.shelves p shelf h.places at p (omega arith)
+module _ (m : State) (actor p : ℕ) (s : Segment) (most : ℕ) (processor_state : ProcessorState) (r : TokenRow) (at : slice_get m.processor_states p ≡ Some processor_state) (found : row_at s processor_state.rows ≡ Some r) (h : IsWellFormed m) where
+  was : IsProcessorState m.setting m.cells p processor_state
+  was = AllFrom-get (IsProcessorState m.setting m.cells) 0 m.processor_states p processor_state h.processors at p (omega arith)
 
-  place : (k : ℕ) × (slice_get shelf.rows k ≡ Some r) × (r.segment ≡ s)
-  place = found-row s shelf.rows r found
+  place : (k : ℕ) × (slice_get processor_state.rows k ≡ Some r) × (r.segment ≡ s)
+  place = found-row s processor_state.rows r found
 
   over-get : (rows : List TokenRow) (k : ℕ) (q : TokenRow) → slice_get rows k ≡ Some q → AreTokens m.cells (portions rows) → IsTokenOver m.cells q.segment.mask q.token
   over-get [] k q e all = absurd (cc)
@@ -84,7 +78,7 @@ module _ (m : State) (actor p : ℕ) (s : Segment) (most : ℕ) (shelf : Shelf) 
   over-get (x ∷ xs) (suc k) q e all = over-get xs k q e all.1
 
   over : IsTokenOver m.cells s.mask r.token
-  over = subst (λ (t : Segment). IsTokenOver m.cells t.mask r.token) place.2 (over-get shelf.rows place.0 r place.1 was.tokens)
+  over = subst (λ (t : Segment). IsTokenOver m.cells t.mask r.token) place.2 (over-get processor_state.rows place.0 r place.1 was.tokens)
 
   abbrev test : ℕ → Bool
   test = is_fetchable s r.token m.cells most
@@ -123,15 +117,15 @@ module _ (m : State) (actor p : ℕ) (s : Segment) (most : ℕ) (shelf : Shelf) 
   abbrev n : TokenRow
   n = record r { token = b.new }
 
-  put : IsChanged shelf.rows (put_row n shelf.rows) n
-  put = changed shelf.rows place.0 r n was.parts place.1 refl
+  put : IsChanged processor_state.rows (put_row n processor_state.rows) n
+  put = changed processor_state.rows place.0 r n was.parts place.1 refl
 
   covers-new : (h i : ℕ) → covers b.new s.mask h i ≡ (covers r.token s.mask h i || settles m.cells bound i)
   covers-new h i = covers-collapsed (advanced m.cells bound r.token) s.mask h i ∙ covers-advanced m.cells bound r.token s.mask h i
 
-  prefix-at : (a : Name) (c : Bool) → matches s (hash_of a) ≡ c → is_prefix_test (map (λ e. covered_by (portions (put_row n shelf.rows)) (hash_of a) e.index) (stream_in a (events m.cells))) ≡ true
+  prefix-at : (a : Name) (c : Bool) → matches s (hash_of a) ≡ c → is_prefix_test (map (λ e. covered_by (portions (put_row n processor_state.rows)) (hash_of a) e.index) (stream_in a (events m.cells))) ≡ true
   prefix-at a false e =
-      ap is_prefix_test (same-tests (λ i. covered_by (portions (put_row n shelf.rows)) (hash_of a) i) (λ i. covered_by (portions shelf.rows) (hash_of a) i) (stream_in a (events m.cells))
+      ap is_prefix_test (same-tests (λ i. covered_by (portions (put_row n processor_state.rows)) (hash_of a) i) (λ i. covered_by (portions processor_state.rows) (hash_of a) i) (stream_in a (events m.cells))
       (every (λ x. put.other (hash_of a) x.index (ap (λ t. matches t (hash_of a)) place.2 ∙ e)) (stream_in a (events m.cells))))
       ∙ was.folded.prefixes a
     where
@@ -139,32 +133,32 @@ module _ (m : State) (actor p : ℕ) (s : Segment) (most : ℕ) (shelf : Shelf) 
       every f [] = tt
       every f (x ∷ es) = (f x, every f es)
   prefix-at a true e =
-      ap is_prefix_test (same-tests (λ i. covered_by (portions (put_row n shelf.rows)) (hash_of a) i) (λ i. covered_by (portions shelf.rows) (hash_of a) i || nat_lt i bound) (stream_in a (events m.cells))
-      (All-map (λ x. IsTrue (is_settled m.cells x.index)) (λ x. covered_by (portions (put_row n shelf.rows)) (hash_of a) x.index ≡ (covered_by (portions shelf.rows) (hash_of a) x.index || nat_lt x.index bound)) (λ x. test-at x.index) (stream_in a (events m.cells)) (settled-stream a m.cells)))
-      ∙ prefix-grows (λ i. covered_by (portions shelf.rows) (hash_of a) i) bound 0 (stream_in a (events m.cells)) (rising-stream a m.cells) (was.folded.prefixes a)
+      ap is_prefix_test (same-tests (λ i. covered_by (portions (put_row n processor_state.rows)) (hash_of a) i) (λ i. covered_by (portions processor_state.rows) (hash_of a) i || nat_lt i bound) (stream_in a (events m.cells))
+      (All-map (λ x. IsTrue (is_settled m.cells x.index)) (λ x. covered_by (portions (put_row n processor_state.rows)) (hash_of a) x.index ≡ (covered_by (portions processor_state.rows) (hash_of a) x.index || nat_lt x.index bound)) (λ x. test-at x.index) (stream_in a (events m.cells)) (settled-stream a m.cells)))
+      ∙ prefix-grows (λ i. covered_by (portions processor_state.rows) (hash_of a) i) bound 0 (stream_in a (events m.cells)) (rising-stream a m.cells) (was.folded.prefixes a)
     where
       served : matches r.segment (hash_of a) ≡ true
       served = ap (λ t. matches t (hash_of a)) place.2 ∙ e
 
-      test-at : (i : ℕ) → IsTrue (is_settled m.cells i) → covered_by (portions (put_row n shelf.rows)) (hash_of a) i ≡ (covered_by (portions shelf.rows) (hash_of a) i || nat_lt i bound)
+      test-at : (i : ℕ) → IsTrue (is_settled m.cells i) → covered_by (portions (put_row n processor_state.rows)) (hash_of a) i ≡ (covered_by (portions processor_state.rows) (hash_of a) i || nat_lt i bound)
       test-at i settled =
           put.here (hash_of a) i (hash-small a) served
           ∙ ap (λ (t : Segment). covers b.new t.mask (hash_of a) i) place.2
           ∙ covers-new (hash_of a) i
           ∙ ap (λ c. covers r.token s.mask (hash_of a) i || (nat_lt i bound && c)) settled
           ∙ ap (λ c. covers r.token s.mask (hash_of a) i || c) (and-true (nat_lt i bound))
-          ∙ ap (λ c. c || nat_lt i bound) (sym (covered-here shelf.rows place.0 r (hash_of a) i was.parts place.1 (hash-small a) served ∙ ap (λ (t : Segment). covers r.token t.mask (hash_of a) i) place.2))
+          ∙ ap (λ c. c || nat_lt i bound) (sym (covered-here processor_state.rows place.0 r (hash_of a) i was.parts place.1 (hash-small a) served ∙ ap (λ (t : Segment). covers r.token t.mask (hash_of a) i) place.2))
         where
           and-true : (c : Bool) → (c && true) ≡ c
           and-true true = refl
           and-true false = refl
 
-  prefixes : CoverPrefix (events m.cells) (put_portion (record { segment = s; token = b.new }) (portions shelf.rows))
+  prefixes : CoverPrefix (events m.cells) (put_portion (record { segment = s; token = b.new }) (portions processor_state.rows))
   prefixes a =
-      let is : portions (put_row n shelf.rows) ≡ put_portion (record { segment = s; token = b.new }) (portions shelf.rows) = put.put ∙ ap (λ (t : Segment). put_portion (record { segment = t; token = b.new }) (portions shelf.rows)) place.2 in
+      let is : portions (put_row n processor_state.rows) ≡ put_portion (record { segment = s; token = b.new }) (portions processor_state.rows) = put.put ∙ ap (λ (t : Segment). put_portion (record { segment = t; token = b.new }) (portions processor_state.rows)) place.2 in
       subst (λ (ps : List Portion). IsTrue (is_prefix_test (map (λ e. covered_by ps (hash_of a) e.index) (stream_in a (events m.cells))))) is (prefix-at a (matches s (hash_of a)) refl)
 
-  standing : IsStanding m.cells (portions shelf.rows) b r.token
+  standing : IsStanding m.cells (portions processor_state.rows) b r.token
   standing = record {
     old = refl;
     new = advance-adds m.cells bound within r.token over.each;
@@ -172,24 +166,24 @@ module _ (m : State) (actor p : ℕ) (s : Segment) (most : ℕ) (shelf : Shelf) 
     prefixes = prefixes;
   }
 
-  rows-standing : (rows : List TokenRow) (k : ℕ) → ((j : ℕ) → slice_get shelf.rows (k + j) ≡ slice_get rows j) → AllByRecursion (IsBatchRow m.cells (portions shelf.rows) b) rows
+  rows-standing : (rows : List TokenRow) (k : ℕ) → ((j : ℕ) → slice_get processor_state.rows (k + j) ≡ slice_get rows j) → AllByRecursion (IsBatchRow m.cells (portions processor_state.rows) b) rows
   rows-standing [] k f = tt
   rows-standing (q ∷ rows) k f = (
-    (λ seg fence. (let here : slice_get shelf.rows k ≡ Some q = (let z : k ≡ k + 0 = omega arith in ap (slice_get shelf.rows) z ∙ f 0) in
-        let same : k ≡ place.0 = one-place shelf.rows k place.0 q r (rows-of shelf.rows was.parts).order here place.1 (seg ∙ sym place.2) in
-        let both : Some q ≡ Some r = sym here ∙ ap (slice_get shelf.rows) same ∙ place.1 in
-        let is : q ≡ r = cc in subst (λ (x : TokenRow). IsStanding m.cells (portions shelf.rows) b x.token) (sym is) standing)),
-    rows-standing rows (suc k) (λ j. let z : suc k + j ≡ k + suc j = omega arith in ap (slice_get shelf.rows) z ∙ f (suc j)),
+    (λ seg fence. (let here : slice_get processor_state.rows k ≡ Some q = (let z : k ≡ k + 0 = omega arith in ap (slice_get processor_state.rows) z ∙ f 0) in
+        let same : k ≡ place.0 = one-place processor_state.rows k place.0 q r (rows-of processor_state.rows was.parts).order here place.1 (seg ∙ sym place.2) in
+        let both : Some q ≡ Some r = sym here ∙ ap (slice_get processor_state.rows) same ∙ place.1 in
+        let is : q ≡ r = cc in subst (λ (x : TokenRow). IsStanding m.cells (portions processor_state.rows) b x.token) (sym is) standing)),
+    rows-standing rows (suc k) (λ j. let z : suc k + j ≡ k + suc j = omega arith in ap (slice_get processor_state.rows) z ∙ f (suc j)),
   )
 
-  shelves-standing : (xs : List Shelf) (k : ℕ) → ((j : ℕ) → slice_get m.shelves (k + j) ≡ slice_get xs j) → AllFrom (IsBatchAt m.cells b) k xs
-  shelves-standing [] k f = tt
-  shelves-standing (x ∷ xs) k f = (
-    (λ e. (let here : slice_get m.shelves k ≡ Some x = (let z : k ≡ k + 0 = omega arith in ap (slice_get m.shelves) z ∙ f 0) in
-        let both : Some x ≡ Some shelf = sym here ∙ ap (slice_get m.shelves) e ∙ at in
-        let is : shelf ≡ x = cc in
-        subst (λ (y : Shelf). AllByRecursion (IsBatchRow m.cells (portions y.rows) b) y.rows) is (rows-standing shelf.rows 0 (λ j. let z : 0 + j ≡ j = omega arith in ap (slice_get shelf.rows) z)))),
-    shelves-standing xs (suc k) (λ j. let z : suc k + j ≡ k + suc j = omega arith in ap (slice_get m.shelves) z ∙ f (suc j)),
+  processor_states-standing : (xs : List ProcessorState) (k : ℕ) → ((j : ℕ) → slice_get m.processor_states (k + j) ≡ slice_get xs j) → AllFrom (IsBatchAt m.cells b) k xs
+  processor_states-standing [] k f = tt
+  processor_states-standing (x ∷ xs) k f = (
+    (λ e. (let here : slice_get m.processor_states k ≡ Some x = (let z : k ≡ k + 0 = omega arith in ap (slice_get m.processor_states) z ∙ f 0) in
+        let both : Some x ≡ Some processor_state = sym here ∙ ap (slice_get m.processor_states) e ∙ at in
+        let is : processor_state ≡ x = cc in
+        subst (λ (y : ProcessorState). AllByRecursion (IsBatchRow m.cells (portions y.rows) b) y.rows) is (rows-standing processor_state.rows 0 (λ j. let z : 0 + j ≡ j = omega arith in ap (slice_get processor_state.rows) z)))),
+    processor_states-standing xs (suc k) (λ j. let z : suc k + j ≡ k + suc j = omega arith in ap (slice_get m.processor_states) z ∙ f (suc j)),
   )
 
   -- the desk with the batch
@@ -207,41 +201,41 @@ module _ (m : State) (actor p : ℕ) (s : Segment) (most : ℕ) (shelf : Shelf) 
       apart = λ i. let e : count (λ d. holds_cell i d.reservation) (slice_set m.desks actor desk) ≡ count (λ d. holds_cell i d.reservation) m.desks = count-set_same (λ d. holds_cell i d.reservation) m.desks actor empty_desk desk refl in
           let k : count (λ d. holds_cell i d.reservation) m.desks ≤ 1 = h.reserved.apart i in omega arith;
     };
-    places = h.places;
+    processors = h.processors;
     declared = h.declared;
     actors = length-set m.desks actor desk ∙ h.actors;
     fences = h.fences;
-    desks = AllFrom-set (λ k d. IsSeat m.fence m.shelves (name_at m.setting.actors k) d) 0 m.desks actor desk h.desks (λ k e. seat k (AllFrom-at (λ j d. IsSeat m.fence m.shelves (name_at m.setting.actors j) d) 0 m.desks actor empty_desk h.desks (λ j. record { held = tt; batch = tt }) k e));
-    batches = All-set (λ d. IfSome d.batch (IsBatchIn m.setting m.cells m.shelves)) m.desks actor desk h.batches
-        (record { declared = projection; rows = shelves-standing m.shelves 0 (λ j. let z : 0 + j ≡ j = omega arith in ap (slice_get m.shelves) z) });
+    desks = AllFrom-set (λ k d. IsDeskOf m.fence m.processor_states (name_at m.setting.actors k) d) 0 m.desks actor desk h.desks (λ k e. seat k (AllFrom-at (λ j d. IsDeskOf m.fence m.processor_states (name_at m.setting.actors j) d) 0 m.desks actor empty_desk h.desks (λ j. record { held = tt; batch = tt }) k e));
+    batches = All-set (λ d. IfSome d.batch (IsBatchIn m.setting m.cells m.processor_states)) m.desks actor desk h.batches
+        (record { declared = projection; rows = processor_states-standing m.processor_states 0 (λ j. let z : 0 + j ≡ j = omega arith in ap (slice_get m.processor_states) z) });
   }
     where
-      seat : (k : ℕ) → IsSeat m.fence m.shelves (name_at m.setting.actors k) (desk_at m actor) → IsSeat m.fence m.shelves (name_at m.setting.actors k) desk
-      seat k old = record { held = old.held; batch = owned m.fence m.shelves (name_at m.setting.actors k) (desk_at m actor) p s r.fence old held }
+      seat : (k : ℕ) → IsDeskOf m.fence m.processor_states (name_at m.setting.actors k) (desk_at m actor) → IsDeskOf m.fence m.processor_states (name_at m.setting.actors k) desk
+      seat k old = record { held = old.held; batch = owned m.fence m.processor_states (name_at m.setting.actors k) (desk_at m actor) p s r.fence old held }
 
 -- ---- the step
 
-kept-checked : (m : State) (actor p : ℕ) (s : Segment) (most : ℕ) (shelf : Shelf) → slice_get m.shelves p ≡ Some shelf → IsTrue (is_projection m.setting p) → IsWellFormed m → (o : Option ℕ) → held_fence p s (desk_at m actor).held ≡ o
-    → (x : Option TokenRow) → row_at s shelf.rows ≡ x → IsWellFormed (checked m (held_check o x) x (λ r. fetched m actor (batch_of m p s most r))).state
-kept-checked m actor p s most shelf at projection h None e None f = h
-kept-checked m actor p s most shelf at projection h None e (Some r) f = h
-kept-checked m actor p s most shelf at projection h (Some g) e None f = h
-kept-checked m actor p s most shelf at projection h (Some g) e (Some r) f = by (r.fence == g) refl
+kept-checked : (m : State) (actor p : ℕ) (s : Segment) (most : ℕ) (processor_state : ProcessorState) → slice_get m.processor_states p ≡ Some processor_state → IsTrue (is_projection m.setting p) → IsWellFormed m → (o : Option ℕ) → held_fence p s (desk_at m actor).held ≡ o
+    → (x : Option TokenRow) → row_at s processor_state.rows ≡ x → IsWellFormed (checked m (held_check o x) x (λ r. fetched m actor (batch_of m p s most r))).state
+kept-checked m actor p s most processor_state at projection h None e None f = h
+kept-checked m actor p s most processor_state at projection h None e (Some r) f = h
+kept-checked m actor p s most processor_state at projection h (Some g) e None f = h
+kept-checked m actor p s most processor_state at projection h (Some g) e (Some r) f = by (r.fence == g) refl
   where
     by : (c : Bool) → (r.fence == g) ≡ c → IsWellFormed (checked m (if c then None else Some (Reply.Stale g (Some r.fence))) (Some r) (λ r. fetched m actor (batch_of m p s most r))).state
     by false k = h
-    by true k = let same : g ≡ r.fence = grind (arith, nat_tests, k) in kept-fetched m actor p s most shelf r at f h projection (e ∙ ap Some same)
+    by true k = let same : g ≡ r.fence = grind (arith, nat_tests, k) in kept-fetched m actor p s most processor_state r at f h projection (e ∙ ap Some same)
 
 pub kept-fetch : (m : State) (actor p : ℕ) (s : Segment) (most : ℕ) → IsTrue (is_projection m.setting p) → IsWellFormed m → IsWellFormed (fetch_at m actor p s most).state
-kept-fetch m actor p s most projection h = by (slice_get m.shelves p) refl
+kept-fetch m actor p s most projection h = by (slice_get m.processor_states p) refl
   where
-    by : (o : Option Shelf) → slice_get m.shelves p ≡ o → IsWellFormed (fetch_at m actor p s most).state
-    by (Some shelf) e =
-        let is : shelf_at m p ≡ shelf = ap (option_or empty_shelf) e in
-        kept-checked m actor p s most (shelf_at m p) (e ∙ ap Some (sym is)) projection h (held_fence p s (desk_at m actor).held) refl (row_at s (shelf_at m p).rows) refl
+    by : (o : Option ProcessorState) → slice_get m.processor_states p ≡ o → IsWellFormed (fetch_at m actor p s most).state
+    by (Some processor_state) e =
+        let is : processor_state_at m p ≡ processor_state = ap (option_or empty_processor) e in
+        kept-checked m actor p s most (processor_state_at m p) (e ∙ ap Some (sym is)) projection h (held_fence p s (desk_at m actor).held) refl (row_at s (processor_state_at m p).rows) refl
     by None e =
-        let none : shelf_at m p ≡ empty_shelf = ap (option_or empty_shelf) e in
-        subst (λ (x : Shelf). IsWellFormed (checked m (held_check (held_fence p s (desk_at m actor).held) (row_at s x.rows)) (row_at s x.rows) (λ r. fetched m actor (batch_of m p s most r))).state) (sym none) (no-row (held_fence p s (desk_at m actor).held))
+        let none : processor_state_at m p ≡ empty_processor = ap (option_or empty_processor) e in
+        subst (λ (x : ProcessorState). IsWellFormed (checked m (held_check (held_fence p s (desk_at m actor).held) (row_at s x.rows)) (row_at s x.rows) (λ r. fetched m actor (batch_of m p s most r))).state) (sym none) (no-row (held_fence p s (desk_at m actor).held))
       where
         no-row : (o : Option ℕ) → IsWellFormed (checked m (held_check o None) None (λ r. fetched m actor (batch_of m p s most r))).state
         no-row None = h

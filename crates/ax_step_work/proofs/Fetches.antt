@@ -8,17 +8,17 @@ use Rattle.ax_tokens.specs.Tokens.{Token}
 use Rattle.ax_claims.specs.Rows.{TokenRow, row_at}
 use Rattle.ax_state.specs.Every.{option_or}
 use Rattle.ax_state.specs.Setting.{is_projection}
-use Rattle.ax_state.specs.State.{Shelf, Desk, Batch, Held, desk_at, shelf_at, empty_desk, empty_shelf, with_desk}
+use Rattle.ax_state.specs.State.{ProcessorState, Desk, Batch, Held, desk_at, processor_state_at, empty_desk, empty_processor, with_desk}
 use Rattle.ax_state.specs.Holding.{held_fence, held_check, checked}
 use Rattle.ax_state.specs.Answer.{Answer}
-use Rattle.ax_state.proofs.Puts.{found-row}
-use Rattle.ax_world.specs.Whole.{Whole, state_of, place_at}
-use Rattle.ax_world.specs.Made.{made_all}
+use Rattle.ax_state.proofs.RowPuts.{found-row}
+use Rattle.ax_world.specs.WorldTables.{WorldTables, state_of, processor_tables_at}
+use Rattle.ax_world.specs.EditsApplied.{edits_applied}
 use Rattle.ax_world.specs.Fits.{IsWorld}
 use Rattle.ax_world.specs.Moves.{IsMove}
-use Rattle.ax_world.proofs.Moves.{unmoved, moved}
+use Rattle.ax_world.proofs.StepMoves.{unmoved, moved}
 use Rattle.ax_world.proofs.Projections.{projection-within}
-use Rattle.ax_world.proofs.Shelves.{get-at, shelf-place}
+use Rattle.ax_world.proofs.ProcessorStates.{get-at, processor_state-place}
 use Rattle.ax_step_work.specs.Working.{is_fetched, batch_of, fetched, fetch_at, fetched_token}
 use Rattle.ax_step_work.proofs.FetchKept.{kept-fetched}
 use Rattle.ax_world.specs.declared.edit.Edit.{Edit}
@@ -31,14 +31,14 @@ ok-map (Err e) P Q f h = tt
 
 -- ---- the batch
 
-pub fetch-move : (w : Whole) (actor p most : ℕ) (row : TokenRow) (old new : Desk) (t n : Token) (cells : List Cell) (records : ℕ) → IsWorld w → IsTrue (is_projection w.setting p) → actor < length w.setting.actors
-    → row_at row.segment (place_at w p).shelf.rows ≡ Some row → held_fence p row.segment (desk_at (state_of w) actor).held ≡ Some row.fence → slice_get w.desks actor ≡ Some old → cells ≡ w.cells → t ≡ row.token
+pub fetch-move : (w : WorldTables) (actor p most : ℕ) (row : TokenRow) (old new : Desk) (t n : Token) (cells : List Cell) (records : ℕ) → IsWorld w → IsTrue (is_projection w.setting p) → actor < length w.setting.actors
+    → row_at row.segment (processor_tables_at w p).processor_state.rows ≡ Some row → held_fence p row.segment (desk_at (state_of w) actor).held ≡ Some row.fence → slice_get w.desks actor ≡ Some old → cells ≡ w.cells → t ≡ row.token
     → n ≡ fetched_token row.segment row.token cells most → new ≡ record old { batch = Some (record { processor = p; segment = row.segment; fence = row.fence; old = t; new = n }) }
     → records ≡ length (filter (is_fetched row.segment row.token n) (events cells))
     → IsMove w (fetched (state_of w) actor (batch_of (state_of w) p row.segment most row)) (record { edits = Edit.SetDesk actor new ∷ []; reply = Reply.Fetched records; report = [] })
 fetch-move w actor p most row old new t n cells records h projection lt found held at cells_are t_is n_is new_is records_are =
     moved w (Edit.SetDesk actor new ∷ []) (fetched (state_of w) actor b) (Reply.Fetched records) h (omega arith) ((let seats : length w.desks ≡ length w.setting.actors = h.state.actors in omega arith), tt) state
-    (kept-fetched (state_of w) actor p row.segment most (place_at w p).shelf row shelf found h.state projection held) refl h.tables reply refl
+    (kept-fetched (state_of w) actor p row.segment most (processor_tables_at w p).processor_state row processor_state found h.state projection held) refl h.tables reply refl
   where
     b : Batch
     b = batch_of (state_of w) p row.segment most row
@@ -55,25 +55,25 @@ fetch-move w actor p most row old new t n cells records h projection lt found he
         ∙ ap (λ n. record old { batch = Some (record { processor = p; segment = row.segment; fence = row.fence; old = row.token; new = n }) }) n_new
         ∙ ap (λ (d : Desk). record d { batch = Some b }) (sym desk_is)
 
-    state : state_of (made_all (Edit.SetDesk actor new ∷ []) w) ≡ with_desk actor (record (desk_at (state_of w) actor) { batch = Some b }) (state_of w)
+    state : state_of (edits_applied (Edit.SetDesk actor new ∷ []) w) ≡ with_desk actor (record (desk_at (state_of w) actor) { batch = Some b }) (state_of w)
     state = ap (λ d. with_desk actor d (state_of w)) new_desk
 
-    shelf : slice_get (state_of w).shelves p ≡ Some (place_at w p).shelf
-    shelf =
-        let l : length (state_of w).shelves ≡ length w.setting.processors = h.state.declared in
+    processor_state : slice_get (state_of w).processor_states p ≡ Some (processor_tables_at w p).processor_state
+    processor_state =
+        let l : length (state_of w).processor_states ≡ length w.setting.processors = h.state.declared in
         let lt : p < length w.setting.processors = projection-within w.setting.processors p projection in
-        get-at empty_shelf (state_of w).shelves p (omega arith) ∙ ap Some (shelf-place w p)
+        get-at empty_processor (state_of w).processor_states p (omega arith) ∙ ap Some (processor_state-place w p)
 
     reply : Reply.Fetched records ≡ Reply.Fetched (length (filter (is_fetched row.segment row.token b.new) (events w.cells)))
     reply = ap Reply.Fetched (records_are ∙ ap (λ cs. length (filter (is_fetched row.segment row.token n) (events cs))) cells_are ∙ ap (λ n. length (filter (is_fetched row.segment row.token n) (events w.cells))) n_new)
 
 -- ---- refusals
 
-pub refused-fetch : (w : Whole) (actor p : ℕ) (s : Segment) (most : ℕ) (o : Option ℕ) (x : Option TokenRow) (refusal : Reply) → IsWorld w → o ≡ held_fence p s (desk_at (state_of w) actor).held → x ≡ row_at s (shelf_at (state_of w) p).rows
+pub refused-fetch : (w : WorldTables) (actor p : ℕ) (s : Segment) (most : ℕ) (o : Option ℕ) (x : Option TokenRow) (refusal : Reply) → IsWorld w → o ≡ held_fence p s (desk_at (state_of w) actor).held → x ≡ row_at s (processor_state_at (state_of w) p).rows
     → held_check o x ≡ Some refusal → IsMove w (fetch_at (state_of w) actor p s most) (record { edits = []; reply = refusal; report = [] })
 refused-fetch w actor p s most o x refusal h e f k =
     subst (λ a. IsMove w a (record { edits = []; reply = refusal; report = [] }))
-    (sym (ap (λ o. checked (state_of w) (held_check o (row_at s (shelf_at (state_of w) p).rows)) (row_at s (shelf_at (state_of w) p).rows) next) (sym e)
+    (sym (ap (λ o. checked (state_of w) (held_check o (row_at s (processor_state_at (state_of w) p).rows)) (row_at s (processor_state_at (state_of w) p).rows) next) (sym e)
     ∙ ap (λ x. checked (state_of w) (held_check o x) x next) (sym f) ∙ ap (λ r. checked (state_of w) r x next) k))
     (unmoved w refusal h)
   where
@@ -82,11 +82,11 @@ refused-fetch w actor p s most o x refusal h e f k =
 
 -- ---- a row whose fence is held
 
-pub held-desk : (w : Whole) (actor p : ℕ) (s : Segment) (old : Desk) (held : List Held) (o : Option ℕ) → slice_get w.desks actor ≡ Some old → held ≡ old.held → o ≡ held_fence p s held → o ≡ held_fence p s (desk_at (state_of w) actor).held
+pub held-desk : (w : WorldTables) (actor p : ℕ) (s : Segment) (old : Desk) (held : List Held) (o : Option ℕ) → slice_get w.desks actor ≡ Some old → held ≡ old.held → o ≡ held_fence p s held → o ≡ held_fence p s (desk_at (state_of w) actor).held
 held-desk w actor p s old held o at is e = e ∙ ap (held_fence p s) (is ∙ sym (ap (λ x. (option_or empty_desk x).held) at))
 
-pub record IsHeldRow (w : Whole) (actor p : ℕ) (s : Segment) (most : ℕ) (row : TokenRow) : Type 0 where
-  pub found : row_at row.segment (place_at w p).shelf.rows ≡ Some row
+pub record IsHeldRow (w : WorldTables) (actor p : ℕ) (s : Segment) (most : ℕ) (row : TokenRow) : Type 0 where
+  pub found : row_at row.segment (processor_tables_at w p).processor_state.rows ≡ Some row
   pub held : held_fence p row.segment (desk_at (state_of w) actor).held ≡ Some row.fence
   pub is : fetched (state_of w) actor (batch_of (state_of w) p row.segment most row) ≡ fetch_at (state_of w) actor p s most
 
@@ -98,19 +98,19 @@ held-by (Some f) r h = at (r.fence == f) refl h
     at true e h = let same : f ≡ r.fence = grind (arith, nat_tests, e) in ap Some same
     at false e h = absurd (cc)
 
-pub held-row : (w : Whole) (actor p : ℕ) (s : Segment) (most : ℕ) (o : Option ℕ) (x : Option TokenRow) (row : TokenRow) → o ≡ held_fence p s (desk_at (state_of w) actor).held → x ≡ row_at s (place_at w p).shelf.rows → x ≡ Some row
+pub held-row : (w : WorldTables) (actor p : ℕ) (s : Segment) (most : ℕ) (o : Option ℕ) (x : Option TokenRow) (row : TokenRow) → o ≡ held_fence p s (desk_at (state_of w) actor).held → x ≡ row_at s (processor_tables_at w p).processor_state.rows → x ≡ Some row
     → held_check o x ≡ None → IsHeldRow w actor p s most row
 held-row w actor p s most o x row e f g k = record {
-  found = ap (λ t. row_at t (place_at w p).shelf.rows) segment ∙ found;
+  found = ap (λ t. row_at t (processor_tables_at w p).processor_state.rows) segment ∙ found;
   held = ap (λ t. held_fence p t (desk_at (state_of w) actor).held) segment ∙ held;
   is = ap (λ t. fetched (state_of w) actor (batch_of (state_of w) p t most row)) segment ∙ sym whole;
 }
   where
-    found : row_at s (place_at w p).shelf.rows ≡ Some row
+    found : row_at s (processor_tables_at w p).processor_state.rows ≡ Some row
     found = sym f ∙ g
 
     segment : row.segment ≡ s
-    segment = (found-row s (place_at w p).shelf.rows row found).2
+    segment = (found-row s (processor_tables_at w p).processor_state.rows row found).2
 
     held_is : o ≡ Some row.fence
     held_is = held-by o row (ap (held_check o) (sym g) ∙ k)
@@ -121,12 +121,12 @@ held-row w actor p s most o x row e f g k = record {
     next : TokenRow → Answer
     next r = fetched (state_of w) actor (batch_of (state_of w) p s most r)
 
-    rows : row_at s (shelf_at (state_of w) p).rows ≡ Some row
-    rows = ap (λ (x : Shelf). row_at s x.rows) (shelf-place w p) ∙ found
+    rows : row_at s (processor_state_at (state_of w) p).rows ≡ Some row
+    rows = ap (λ (x : ProcessorState). row_at s x.rows) (processor_state-place w p) ∙ found
 
     whole : fetch_at (state_of w) actor p s most ≡ fetched (state_of w) actor (batch_of (state_of w) p s most row)
     whole =
-        ap (λ o. checked (state_of w) (held_check o (row_at s (shelf_at (state_of w) p).rows)) (row_at s (shelf_at (state_of w) p).rows) next) (sym e)
+        ap (λ o. checked (state_of w) (held_check o (row_at s (processor_state_at (state_of w) p).rows)) (row_at s (processor_state_at (state_of w) p).rows) next) (sym e)
         ∙ ap (λ x. checked (state_of w) (held_check o x) x next) (rows ∙ sym g)
         ∙ ap (λ r. checked (state_of w) r x next) k
         ∙ ap (λ x. checked (state_of w) None x next) g

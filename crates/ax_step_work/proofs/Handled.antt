@@ -21,6 +21,8 @@ use Rattle.ax_rules.specs.declared.cause.Cause.{Cause}
 use Rattle.ax_world.specs.declared.edit.Edit.{Edit}
 use Rattle.ax_projections.specs.declared.table.Positioned.{Positioned}
 use Rattle.ax_upcast.specs.declared.upcaster.Upcaster.{Upcaster}
+use Rattle.ax_projections.proofs.RebuildLaws.{plain-placed}
+use Rattle.ax_laws.proofs.Options.{none-of}
 
 -- ---- tables
 
@@ -135,10 +137,6 @@ is-failed o f new e = subst (λ o. IsHandled o (Some f) new) (sym e) refl
 
 -- ---- the items of one cell more
 
-plain-placed : (i : ℕ) (xs : List Item) → plain_items (map (placed i) xs) ≡ xs
-plain-placed i [] = refl
-plain-placed i (x ∷ xs) = ap (λ ys. x ∷ ys) (plain-placed i xs)
-
 module _ (chain : List Upcaster) (b : Batch) where
   abbrev pub left : ℕ → List Cell → List Item
   left k cells = plain_items (batch_items chain b (events_from k cells))
@@ -163,10 +161,6 @@ module _ (chain : List Upcaster) (b : Batch) where
       ∙ ap (λ n. cell_items chain b (first + i) c ++ left n (drop (i + 1) cells)) (sym more)
 
 -- ---- steps of the loops
-
-pub none-of : {A : Type 0} (o : Option A) → ((x : A) → o ≡ Some x → ⊥) → o ≡ None
-none-of None h = refl
-none-of (Some x) h = absurd (h x refl)
 
 module _ (rules : Rules) (kept : List Entry) where
   pub item-step : (xs : List Item) (i : ℕ) (x : Item) (s new : Progress) (a : Option Failure) (w : ℕ) (o : Result Progress Failure) → i < length xs → x ≡ get_or xs i x → a ≡ None → IsHandled (handled_item rules kept x s) a new

@@ -9,10 +9,11 @@ use Rattle.ax_log.specs.Log.{Stored, events_from, events}
 use Rattle.ax_segments.specs.Segments.{Segment, hash_of, matches}
 use Rattle.ax_tokens.specs.Plain.{Plain, contains, has, is_canonical_plain}
 use Rattle.ax_tokens.specs.Tokens.{Token, covers}
-use Rattle.ax_tokens.proofs.Sets.{and-left, above-first, gaps-below}
+use Rattle.ax_tokens.proofs.Sets.{above-first, gaps-below}
 use Rattle.ax_tokens.proofs.Gaps.{canonical-rises, canonical-below}
 use Rattle.ax_step_work.specs.Working.{is_new, new_below, is_fetched}
 use Rattle.ax_step_work.specs.Reach.{IsCoveredBelow, IsOpenFrom}
+use Rattle.ax_laws.proofs.Tests.{and-left}
 
 nothing-then : (m : Bool) → (m && false) ≡ false
 nothing-then true = refl

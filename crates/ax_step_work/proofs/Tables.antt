@@ -8,11 +8,11 @@ use Rattle.ax_values.specs.Words.{same_name}
 use Rattle.ax_log.specs.Log.{Stored, events, events_from, stream_in, is_of}
 use Rattle.ax_rules.specs.Expr.{Row}
 use Rattle.ax_rules.specs.Rules.{Rules, and_then, applied, fold_from, start_row, row_or}
-use Rattle.ax_upcast.specs.Upcast.{IsFew, upcast, numbered, chained, event_of_record}
+use Rattle.ax_upcast.specs.Upcast.{KeepsLimit, upcast, numbered, chained, event_of_record}
 use Rattle.ax_projections.specs.Table.{Entry, look_up, put_entry}
 use Rattle.ax_projections.specs.Items.{placed, placed_items, plain_items}
 use Rattle.ax_projections.specs.Rebuild.{without}
-use Rattle.ax_projections.proofs.NameLaws.{name-is, name-sym, name-refl}
+use Rattle.ax_projections.proofs.NameLaws.{name-is, name-sym, name-refl, length-without}
 use Rattle.ax_projections.proofs.RowLaws.{length_applied}
 use Rattle.ax_state.specs.Portions.{Portion, covered_events, items_in, row_by}
 use Rattle.ax_state.specs.State.{Batch}
@@ -26,16 +26,9 @@ use Rattle.ax_rules.specs.declared.cause.Cause.{Cause}
 use Rattle.ax_rules.specs.declared.rules.Initial.{Initial}
 use Rattle.ax_upcast.specs.declared.upcaster.Upcaster.{Upcaster}
 use Rattle.ax_upcast.specs.declared.event.Event.{Event}
+use Rattle.ax_laws.proofs.Lists.{length-filter}
 
 -- ---- distinct names among others are no more than these
-
-length-without : (n : Name) (ms : List Name) → length (without n ms) ≤ length ms
-length-without n [] = omega arith
-length-without n (m ∷ ms) = at (same_name n m) (length-without n ms)
-  where
-    at : (b : Bool) → length (without n ms) ≤ length ms → length (cond (not b) (m ∷ without n ms) (without n ms)) ≤ suc (length ms)
-    at true h = omega (arith, h)
-    at false h = omega (arith, h)
 
 shorter : (n : Name) (ms : List Name) → list_any (same_name n) ms ≡ true → suc (length (without n ms)) ≤ length ms
 shorter n [] h = absurd (cc)
@@ -124,28 +117,20 @@ length-numbered : (a : Name) (s k : ℕ) (es : List Event) → length (numbered 
 length-numbered a s k [] = refl
 length-numbered a s k (e ∷ es) = ap suc (length-numbered a s (suc k) es)
 
-upcast-few : (chain : List Upcaster) (e : Stored) → IsFew chain → length (placed_items chain e) ≤ 8
+upcast-few : (chain : List Upcaster) (e : Stored) → KeepsLimit chain → length (placed_items chain e) ≤ 8
 upcast-few chain e few =
     let k : length (chained (take (length chain) chain) (event_of_record e.record_of ∷ [])) ≤ 8 = few (event_of_record e.record_of) (length chain) in
     let all : take (length chain) chain ≡ chain = take_all (length chain) chain (omega arith) in
     let l : length (chained (take (length chain) chain) (event_of_record e.record_of ∷ [])) ≡ length (chained chain (event_of_record e.record_of ∷ [])) = ap (λ us. length (chained us (event_of_record e.record_of ∷ []))) all in
     omega (arith, k, l, length-map (upcast chain e.record_of) (placed e.index), length-numbered e.record_of.aggregate e.record_of.seq 0 (chained chain (event_of_record e.record_of ∷ [])))
 
-items-few : (chain : List Upcaster) (es : List Stored) → IsFew chain → length (flat_map (placed_items chain) es) ≤ 8 * length es
+items-few : (chain : List Upcaster) (es : List Stored) → KeepsLimit chain → length (flat_map (placed_items chain) es) ≤ 8 * length es
 items-few chain [] few = omega arith
 items-few chain (e ∷ es) few =
     let h : length (flat_map (placed_items chain) es) ≤ 8 * length es = items-few chain es few in
     omega (arith, h, upcast-few chain e few, length-append (placed_items chain e) (flat_map (placed_items chain) es))
 
-length-filter : {A : Type 0} (t : A → Bool) (xs : List A) → length (filter t xs) ≤ length xs
-length-filter t [] = omega arith
-length-filter t (x ∷ xs) = at (t x) (length-filter t xs)
-  where
-    at : (b : Bool) → length (filter t xs) ≤ length xs → length (cond b (x ∷ filter t xs) (filter t xs)) ≤ suc (length xs)
-    at true h = omega (arith, h)
-    at false h = omega (arith, h)
-
-pub covered-few : (chain : List Upcaster) (ps : List Portion) (a : Name) (cells : List Cell) → IsFew chain → length cells ≤ 200000 → length (items_in chain (covered_events ps (events cells)) a) ≤ 1600000
+pub covered-few : (chain : List Upcaster) (ps : List Portion) (a : Name) (cells : List Cell) → KeepsLimit chain → length cells ≤ 200000 → length (items_in chain (covered_events ps (events cells)) a) ≤ 1600000
 covered-few chain ps a cells few size =
     let k : length (items_in chain (covered_events ps (events cells)) a) ≤ 8 * length (stream_in a (covered_events ps (events cells))) = items-few chain (stream_in a (covered_events ps (events cells))) few in
     let l : length (stream_in a (covered_events ps (events cells))) ≤ length (covered_events ps (events cells)) = length-filter (is_of a) (covered_events ps (events cells)) in
@@ -154,7 +139,7 @@ covered-few chain ps a cells few size =
     omega arith
 
 -- the items of a batch
-pub batch-few : (chain : List Upcaster) (b : Batch) (cells : List Cell) → IsFew chain → length cells ≤ 200000 → length (batch_items chain b (events cells)) ≤ 1600000
+pub batch-few : (chain : List Upcaster) (b : Batch) (cells : List Cell) → KeepsLimit chain → length cells ≤ 200000 → length (batch_items chain b (events cells)) ≤ 1600000
 batch-few chain b cells few size =
     let k : length (batch_items chain b (events cells)) ≤ 8 * length (fetched_events b (events cells)) = items-few chain (fetched_events b (events cells)) few in
     let m : length (fetched_events b (events cells)) ≤ length (events cells) = length-filter (is_fetched b.segment b.old b.new) (events cells) in

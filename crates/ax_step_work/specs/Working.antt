@@ -11,7 +11,7 @@ use Rattle.ax_tokens.specs.Tokens.{Token, covers, advanced, collapsed, gaps_fit}
 use Rattle.ax_projections.specs.Items.{Placed, placed_items, plain_items}
 use Rattle.ax_claims.specs.Rows.{TokenRow, row_at, put_row}
 use Rattle.ax_state.specs.Setting.{Setting, processor_number, projection_at, is_projection}
-use Rattle.ax_state.specs.State.{State, Batch, desk_at, shelf_at, with_desk, with_rows}
+use Rattle.ax_state.specs.State.{State, Batch, desk_at, processor_state_at, with_desk, with_rows}
 use Rattle.ax_state.specs.Positions.{row_of}
 use Rattle.ax_state.specs.Holding.{on_held_row}
 use Rattle.ax_state.specs.Answer.{Answer, answer}
@@ -112,7 +112,7 @@ first_failure rules row before (x ∷ xs) =
 
 -- the row gets the batch's new token, and the batch is done
 abbrev pub installed : State → ℕ → Batch → TokenRow → State
-installed m actor b r = with_batch actor None (with_rows b.processor (put_row (record r { token = b.new; since = m.clock }) (shelf_at m b.processor).rows) m)
+installed m actor b r = with_batch actor None (with_rows b.processor (put_row (record r { token = b.new; since = m.clock }) (processor_state_at m b.processor).rows) m)
 
 abbrev pub committed : State → ℕ → Batch → TokenRow → Option Failure → Answer
 committed m actor b r (Some f) = answer m (Reply.NotApplied f.item (why_text (Why.Failed f.cause)))
@@ -126,7 +126,7 @@ commit_over m actor b (Some r) =
 
 abbrev pub commit_batch : State → ℕ → Option Batch → Answer
 commit_batch m actor None = answer m Reply.NoBatch
-commit_batch m actor (Some b) = commit_over m actor b (row_at b.segment (shelf_at m b.processor).rows)
+commit_batch m actor (Some b) = commit_over m actor b (row_at b.segment (processor_state_at m b.processor).rows)
 
 abbrev pub commit : State → ℕ → Answer
 commit m actor = commit_batch m actor (desk_at m actor).batch

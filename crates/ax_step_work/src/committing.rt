@@ -6,7 +6,7 @@ ghost use Rattle.ax_rules.specs.declared.why.Why.{Why};
 ghost use Rattle.ax_projections.specs.Table.{Entry};
 ghost use Rattle.ax_claims.specs.Rows.{row_at};
 ghost use Rattle.ax_state.specs.State.{desk_at};
-ghost use Rattle.ax_world.specs.Whole.{state_of, place_at};
+ghost use Rattle.ax_world.specs.WorldTables.{state_of, processor_tables_at};
 ghost use Rattle.ax_world.specs.Moves.{IsMove};
 ghost use Rattle.ax_world.specs.declared.edit.Edit.{Edit};
 ghost use Rattle.ax_journal.specs.declared.reply.Reply.{Reply};
@@ -24,10 +24,10 @@ use std::alloc::Global;
 
 /// Folds the batch of the actor's desk into the rows of its processor.
 pub(crate) fn commit(alloc: Global, world: &World, actor: u32) -> Result<Move, NoMemory>
-    requires actor { actor < length world.now.whole.setting.actors }
-    ensures { IfOk result (IsMove world.now.whole (commit (state_of world.now.whole) actor)) }
+    requires actor { actor < length world.now.tables.setting.actors }
+    ensures { IfOk result (IsMove world.now.tables (commit (state_of world.now.tables) actor)) }
 {
-    let _ = world.clock();
+    world.facts();
     match &world.desk(actor).batch {
         None => Ok(Move::without_edits(alloc, Reply::NoBatch)),
         Some(batch) => commit_batch(alloc, world, actor, batch),
@@ -35,9 +35,9 @@ pub(crate) fn commit(alloc: Global, world: &World, actor: u32) -> Result<Move, N
 }
 
 fn commit_batch(alloc: Global, world: &World, actor: u32, batch: &Batch) -> Result<Move, NoMemory>
-    requires actor { actor < length world.now.whole.desks }
-    requires batch { (desk_at (state_of world.now.whole) actor).batch ≡ Some batch.now }
-    ensures { IfOk result (IsMove world.now.whole (commit_batch (state_of world.now.whole) actor (Some batch.now))) }
+    requires actor { actor < length world.now.tables.desks }
+    requires batch { (desk_at (state_of world.now.tables) actor).batch ≡ Some batch.now }
+    ensures { IfOk result (IsMove world.now.tables (commit_batch (state_of world.now.tables) actor (Some batch.now))) }
 {
     let now = world.clock();
     match store_batch(alloc, world.rows(batch.processor), now, batch)? {
@@ -81,12 +81,12 @@ fn commit_rows(
     batch: &Batch,
     rows: Rows,
 ) -> Result<Move, NoMemory>
-    requires actor { actor < length world.now.whole.desks }
-    requires batch { (desk_at (state_of world.now.whole) actor).batch ≡ Some batch.now }
-    requires rows { Ok rows ≡ stored_or world.now.whole.clock batch.now (place_at world.now.whole batch.now.processor).shelf.rows (row_at batch.now.segment (place_at world.now.whole batch.now.processor).shelf.rows) }
-    ensures { IfOk result (IsMove world.now.whole (commit_batch (state_of world.now.whole) actor (Some batch.now))) }
+    requires actor { actor < length world.now.tables.desks }
+    requires batch { (desk_at (state_of world.now.tables) actor).batch ≡ Some batch.now }
+    requires rows { Ok rows ≡ stored_or world.now.tables.clock batch.now (processor_tables_at world.now.tables batch.now.processor).processor_state.rows (row_at batch.now.segment (processor_tables_at world.now.tables batch.now.processor).processor_state.rows) }
+    ensures { IfOk result (IsMove world.now.tables (commit_batch (state_of world.now.tables) actor (Some batch.now))) }
 {
-    let _ = world.clock();
+    world.facts();
     let chain = world.sheet().chain();
     let _ = chain.parts();
     let rules = world.projection(batch.processor);
@@ -101,8 +101,8 @@ fn commit_rows(
 
 /// The batch is dropped.
 fn give_up(alloc: Global, world: &World, actor: u32, reply: Reply) -> Result<Move, NoMemory>
-    requires { actor < length world.now.whole.desks }
-    ensures { IfOk result (λ made. made ≡ record { edits = Edit.SetDesk actor (record (desk_at (state_of world.now.whole) actor) { batch = None }) ∷ []; reply = reply; report = [] }) }
+    requires { actor < length world.now.tables.desks }
+    ensures { IfOk result (λ made. made ≡ record { edits = Edit.SetDesk actor (record (desk_at (state_of world.now.tables) actor) { batch = None }) ∷ []; reply = reply; report = [] }) }
 {
     let desk = without_batch(alloc, world, actor)?;
     let mut edits = Edits::new(alloc);
@@ -111,8 +111,8 @@ fn give_up(alloc: Global, world: &World, actor: u32, reply: Reply) -> Result<Mov
 }
 
 fn without_batch(alloc: Global, world: &World, actor: u32) -> Result<Desk, NoMemory>
-    requires { actor < length world.now.whole.desks }
-    ensures { IfOk result (λ desk. desk ≡ record (desk_at (state_of world.now.whole) actor) { batch = None }) }
+    requires { actor < length world.now.tables.desks }
+    ensures { IfOk result (λ desk. desk ≡ record (desk_at (state_of world.now.tables) actor) { batch = None }) }
 {
     world.desk(actor).with_batch(alloc, None)
 }
@@ -123,7 +123,7 @@ fn not_applied(alloc: Global, failed: Failed) -> Result<Move, NoMemory>
 {
     let item = failed.item;
     let mut why = Vec::new(alloc);
-    Why::Failed(failed.cause).write(alloc, &mut why)?;
+    Why::Failed(failed.cause).write(&mut why)?;
     let why = Line::of(why);
     Ok(Move::without_edits(alloc, Reply::NotApplied { item, why }))
 }
@@ -137,8 +137,8 @@ fn install(
     rows: Rows,
     changes: Changes,
 ) -> Result<Move, NoMemory>
-    requires { actor < length world.now.whole.desks }
-    ensures value { IfOk result (λ made. made ≡ record { edits = row_edits processor changes.rows ++ Edit.SetRows processor rows ∷ Edit.SetDesk actor (record (desk_at (state_of world.now.whole) actor) { batch = None }) ∷ []; reply = Reply.Committed changes.items 0 0; report = [] }) }
+    requires { actor < length world.now.tables.desks }
+    ensures value { IfOk result (λ made. made ≡ record { edits = row_edits processor changes.rows ++ Edit.SetRows processor rows ∷ Edit.SetDesk actor (record (desk_at (state_of world.now.tables) actor) { batch = None }) ∷ []; reply = Reply.Committed changes.items 0 0; report = [] }) }
     ensures names { IfOk result (λ made. IsDistinct same_name (map (λ row. row.name) changes.rows)) }
 {
     let applied = changes.items;

@@ -3,7 +3,7 @@ ghost use Rattle.ax_claims.specs.Rows.{row_at};
 ghost use Rattle.ax_state.specs.Setting.{is_projection};
 ghost use Rattle.ax_state.specs.State.{desk_at};
 ghost use Rattle.ax_state.specs.Holding.{held_fence};
-ghost use Rattle.ax_world.specs.Whole.{state_of, place_at};
+ghost use Rattle.ax_world.specs.WorldTables.{state_of, processor_tables_at};
 ghost use Rattle.ax_world.specs.Moves.{IsMove};
 ghost use Rattle.ax_step_work.specs.Working.{fetch_at, fetched, batch_of};
 
@@ -25,12 +25,11 @@ pub(crate) fn fetch(
     segment: Segment,
     most: u32,
 ) -> Result<Move, NoMemory>
-    requires projection { IsTrue (is_projection world.now.whole.setting processor) }
-    requires actor { actor < length world.now.whole.setting.actors }
-    ensures { IfOk result (IsMove world.now.whole (fetch_at (state_of world.now.whole) actor processor segment most)) }
+    requires projection { IsTrue (is_projection world.now.tables.setting processor) }
+    requires actor { actor < length world.now.tables.setting.actors }
+    ensures { IfOk result (IsMove world.now.tables (fetch_at (state_of world.now.tables) actor processor segment most)) }
 {
-    // what the log tells of its world: that it is well-formed
-    let _ = world.log();
+    world.facts();
     let held = held_fence(world.desk(actor).held.parts(), processor, segment);
     let row = world.rows(processor).get(segment);
     if let Some(refusal) = held_check(held, row) {
@@ -51,11 +50,11 @@ fn fetch_row(
     row: &TokenRow,
     most: u32,
 ) -> Result<Move, NoMemory>
-    requires projection { IsTrue (is_projection world.now.whole.setting processor) }
-    requires actor { actor < length world.now.whole.setting.actors }
-    requires found { row_at row.now.segment (place_at world.now.whole processor).shelf.rows ≡ Some row.now }
-    requires held { held_fence processor row.now.segment (desk_at (state_of world.now.whole) actor).held ≡ Some row.now.fence }
-    ensures { IfOk result (IsMove world.now.whole (fetched (state_of world.now.whole) actor (batch_of (state_of world.now.whole) processor row.now.segment most row.now))) }
+    requires projection { IsTrue (is_projection world.now.tables.setting processor) }
+    requires actor { actor < length world.now.tables.setting.actors }
+    requires found { row_at row.now.segment (processor_tables_at world.now.tables processor).processor_state.rows ≡ Some row.now }
+    requires held { held_fence processor row.now.segment (desk_at (state_of world.now.tables) actor).held ≡ Some row.now.fence }
+    ensures { IfOk result (IsMove world.now.tables (fetched (state_of world.now.tables) actor (batch_of (state_of world.now.tables) processor row.now.segment most row.now))) }
 {
     let cells = world.log().cells();
     let new = fetched_token(alloc, row.segment, &row.token, cells, most)?;

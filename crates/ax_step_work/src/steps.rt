@@ -1,5 +1,5 @@
 ghost use Rattle.std.specs.Prelude.{◌<◌, length, IfOk};
-ghost use Rattle.ax_world.specs.Whole.{state_of};
+ghost use Rattle.ax_world.specs.WorldTables.{state_of};
 ghost use Rattle.ax_world.specs.Moves.{IsMove};
 ghost use Rattle.ax_step_work.specs.Working.{IsWork, IsDeclared, step};
 
@@ -26,9 +26,9 @@ use std::alloc::Global;
 /// error.
 pub fn step(alloc: Global, world: &World, actor: u32, order: &Order) -> Result<Move, NoMemory>
     requires kind { IsWork order.now }
-    requires processor { IsDeclared world.now.whole.setting order.now }
-    requires actor { actor < length world.now.whole.setting.actors }
-    ensures { IfOk result (IsMove world.now.whole (step (state_of world.now.whole) actor order.now)) }
+    requires processor { IsDeclared world.now.tables.setting order.now }
+    requires actor { actor < length world.now.tables.setting.actors }
+    ensures { IfOk result (IsMove world.now.tables (step (state_of world.now.tables) actor order.now)) }
 {
     match order {
         Order::Fetch {

@@ -45,7 +45,7 @@ pub(crate) fn refusal(alloc: Global, line: u32, kind: ScriptKind) -> Result<Answ
 {
     let mut text = Vec::new(alloc);
     text.extend_from_slice(b"script ")?;
-    write_number(alloc, u64::from(line), &mut text)?;
+    write_number(u64::from(line), &mut text)?;
     text.push(b' ')?;
     text.extend_from_slice(kind_text(kind))?;
     text.push(b'\n')?;
@@ -64,7 +64,7 @@ pub(crate) fn answer(alloc: Global, task: Task, bytes: &[u8]) -> Result<Answered
     match read(alloc, bytes) {
         Ok(plan) => Ok(Answered {
             status: Status::Done,
-            text: task_text(alloc, task, &plan)?,
+            text: task_text(alloc, task, plan)?,
         }),
         Err(ScriptFault::Wrong { line, kind }) => refusal(alloc, line, kind),
         Err(ScriptFault::Memory) => Err(NoMemory),

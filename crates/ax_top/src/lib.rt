@@ -11,6 +11,3 @@ mod top;
 pub use ax_script::ScriptKind;
 pub use status::Status;
 pub use top::run_script;
-
-#[cfg(test)]
-mod tests;

@@ -11,24 +11,24 @@ use ax_values::NoMemory;
 use std::alloc::Global;
 
 /// Adds the texts of the entries.
-fn write_journal(alloc: Global, entries: &[Entry], out: &mut Vec<u8>) -> Result<(), NoMemory>
+fn write_journal(entries: &[Entry], out: &mut Vec<u8>) -> Result<(), NoMemory>
     ensures { OnOk result (out.new.items ≡ out.old.items ++ journal_text entries.now) }
 {
     for entry in entries {
-        write_entry(alloc, entry, out)?;
+        write_entry(entry, out)?;
     }
     Ok(())
 }
 
 /// What a task prints of a plan, which is performed whole before.
-pub(crate) fn task_text(alloc: Global, task: Task, plan: &Plan) -> Result<Vec<u8>, NoMemory>
-    ensures text { IfOk result (λ text. text.items ≡ task_text task plan.now) }
-    ensures right { IfOk result (λ text. (orders : ℕ) → ShowsRight (state_after plan.now orders)) }
+pub(crate) fn task_text(alloc: Global, task: Task, plan: Plan) -> Result<Vec<u8>, NoMemory>
+    ensures text { IfOk result (λ text. text.items ≡ task_text task plan) }
+    ensures right { IfOk result (λ text. (orders : ℕ) → ShowsRight (state_after plan orders)) }
 {
     let machine = run(alloc, plan)?;
     let mut text = Vec::new(alloc);
     match task {
-        Task::Run => write_journal(alloc, machine.journal(), &mut text)?,
+        Task::Run => write_journal(machine.journal(), &mut text)?,
         Task::Rebuild => rebuild_text(alloc, machine.world(), &mut text)?,
     }
     Ok(text)

@@ -1,7 +1,7 @@
-pub mod Kept
+pub mod OneProcessorChanges
 pub mod Rooms
 pub mod Segments
 pub mod Starts
-pub mod Moves
-pub mod Shelves
+pub mod StepMoves
+pub mod ProcessorStates
 pub mod Projections

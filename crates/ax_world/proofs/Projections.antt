@@ -1,14 +1,13 @@
 -- The rules of a processor that is one of a projection.
 use Rattle.std.proofs.Common.{◌≡◌, ℕ, zero, suc, ◌<◌, Bool, true, false, not, List, [], ◌∷◌, length, Option, IsTrue, is_some, slice_get, get_or, if◌then◌else◌, sym, ap, ◌∙◌, arith}
 use Rattle.std.specs.List.{list_all}
-use Rattle.ax_values.proofs.Options.{both}
+use Rattle.ax_laws.proofs.Tests.{both}
 use Rattle.ax_log.specs.Log.{option_is}
 use Rattle.ax_rules.specs.Rules.{Rules}
 use Rattle.ax_state.specs.Every.{option_or}
 use Rattle.ax_state.specs.Setting.{Setting, IsSetting, is_projection, processor_at, no_processor}
 use Rattle.ax_sheet.specs.Sheet.{Sheet, projection_named, saga_named}
-use Rattle.ax_sheet.specs.Declarations.{is_of_sheet}
-use Rattle.ax_sheet.specs.declared.parts.Processor.{Processor}
+use Rattle.ax_sheet.specs.Declarations.{is_of_sheet, Processor}
 
 rules-among : (sheet : Sheet) (qs : List Processor) (p : ℕ) → list_all (is_of_sheet sheet) qs ≡ true → option_is (λ q. not q.saga) (slice_get qs p) ≡ true → is_some (projection_named sheet (option_or no_processor (slice_get qs p)).name) ≡ true
 rules-among sheet [] p h k = absurd (cc)

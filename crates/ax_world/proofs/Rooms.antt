@@ -7,8 +7,8 @@ use Rattle.ax_values.specs.declared.cell.Cell.{Cell}
 use Rattle.ax_log.specs.Puts.{Room as LogRoom, IsKept, IsKnown}
 use Rattle.ax_log.specs.declared.put.CellPut.{CellPut}
 use Rattle.ax_state.specs.Every.{count, one}
-use Rattle.ax_world.specs.Whole.{Whole, PlaceView, Room, room_in, rows_room, place_at}
-use Rattle.ax_world.specs.Made.{made, with_shelf}
+use Rattle.ax_world.specs.WorldTables.{WorldTables, ProcessorTablesView, Room, room_in, rows_room, processor_tables_at}
+use Rattle.ax_world.specs.EditsApplied.{edit_applied, with_state}
 use Rattle.ax_world.specs.Fits.{CanMake, CanMakeAll, HasCells, HasRoom, Leaves, is_cells, puts_row}
 use Rattle.ax_projections.specs.Table.{put_entry}
 use Rattle.ax_world.specs.declared.edit.Edit.{Edit}
@@ -70,40 +70,40 @@ seen-next P Q f (y ∷ ys) (suc i) x h lt e q = (f y h.0, seen-next P Q f ys i x
 pub seen-more : {A : Type 0} (P Q : A → Type 0) → ((x : A) → P x → Q x) → (xs : List A) (i : ℕ) (x : A) → AllByRecursion P (take i xs) → i < length xs → x ≡ get_or xs i x → Q x → AllByRecursion Q (take (i + 1) xs)
 seen-more P Q f xs i x h lt e q = let next : suc i ≡ i + 1 = omega arith in subst (λ n. AllByRecursion Q (take n xs)) next (seen-next P Q f xs i x h lt e q)
 
-made-length : (w : Whole) (e : Edit) → length (made w e).places ≡ length w.places
+made-length : (w : WorldTables) (e : Edit) → length (edit_applied w e).processor_tables ≡ length w.processor_tables
 made-length w (Edit.Clock now) = refl
 made-length w (Edit.Fence fence) = refl
 made-length w (Edit.Cells puts) = refl
-made-length w (Edit.SetRows p rows) = length-set w.places p (with_shelf (record (place_at w p).shelf { rows = rows }) (place_at w p))
-made-length w (Edit.PutRow p a v) = length-set w.places p (record (place_at w p) { table = put_entry a v (place_at w p).table })
+made-length w (Edit.SetRows p rows) = length-set w.processor_tables p (with_state (record (processor_tables_at w p).processor_state { rows = rows }) (processor_tables_at w p))
+made-length w (Edit.PutRow p a v) = length-set w.processor_tables p (record (processor_tables_at w p) { table = put_entry a v (processor_tables_at w p).table })
 made-length w (Edit.SetDesk k desk) = refl
 
-undeclared-one : (w : Whole) (e : Edit) (q : ℕ) → CanMake w e → length w.places ≤ q → puts_row q e ≡ false
+undeclared-one : (w : WorldTables) (e : Edit) (q : ℕ) → CanMake w e → length w.processor_tables ≤ q → puts_row q e ≡ false
 undeclared-one w (Edit.Clock now) q h k = refl
 undeclared-one w (Edit.Fence fence) q h k = refl
 undeclared-one w (Edit.Cells puts) q h k = refl
 undeclared-one w (Edit.SetRows p rows) q h k = refl
-undeclared-one w (Edit.PutRow p a v) q h k = let lt : p < length w.places = h.0 in grind (arith, nat_tests)
+undeclared-one w (Edit.PutRow p a v) q h k = let lt : p < length w.processor_tables = h.0 in grind (arith, nat_tests)
 undeclared-one w (Edit.SetDesk i desk) q h k = refl
 
-undeclared : (es : List Edit) (w : Whole) (q : ℕ) → CanMakeAll w es → length w.places ≤ q → count (puts_row q) es ≡ 0
+undeclared : (es : List Edit) (w : WorldTables) (q : ℕ) → CanMakeAll w es → length w.processor_tables ≤ q → count (puts_row q) es ≡ 0
 undeclared [] w q h k = refl
 undeclared (e ∷ es) w q h k =
     let none : one (puts_row q e) ≡ 0 = ap one (undeclared-one w e q h.0 k) in
-    let l : length (made w e).places ≡ length w.places = made-length w e in
-    let ih : count (puts_row q) es ≡ 0 = undeclared es (made w e) q h.1 (omega arith) in omega arith
+    let l : length (edit_applied w e).processor_tables ≡ length w.processor_tables = made-length w e in
+    let ih : count (puts_row q) es ≡ 0 = undeclared es (edit_applied w e) q h.1 (omega arith) in omega arith
 
-pub room-made : {U E : Type 0} (r : Result U E) (w : Whole) (es : List Edit) (log : LogRoom) (old new : List PlaceView) → CanMakeAll w es → w.places ≡ map (λ x. x.place) old → map (λ x. x.place) new ≡ map (λ x. x.place) old
+pub room-made : {U E : Type 0} (r : Result U E) (w : WorldTables) (es : List Edit) (log : LogRoom) (old new : List ProcessorTablesView) → CanMakeAll w es → w.processor_tables ≡ map (λ x. x.place) old → map (λ x. x.place) new ≡ map (λ x. x.place) old
     → AllByRecursion (HasCells log) es → OnOk r ((q : ℕ) → q < length new → count (puts_row q) es ≤ room_in (map (λ x. x.room) new) q) → OnOk r (HasRoom (record { log = log; rows = map (λ x. x.room) new }) es)
 room-made (Err e) w es log old new can is same c h = tt
 room-made (Ok u) w es log old new can is same c h = record { log = c; rows = λ q. at q (nat_lt q (length new)) refl }
   where
-    lengths : length w.places ≡ length new
+    lengths : length w.processor_tables ≡ length new
     lengths = ap length is ∙ ap length (sym same) ∙ length-map new (λ x. x.place)
 
     at : (q : ℕ) (b : Bool) → nat_lt q (length new) ≡ b → count (puts_row q) es ≤ room_in (map (λ x. x.room) new) q
     at q true e = h q (grind (arith, nat_tests, e))
     at q false e =
         let past : length new ≤ q = grind (arith, nat_tests, e) in
-        let l : length w.places ≡ length new = lengths in
+        let l : length w.processor_tables ≡ length new = lengths in
         let none : count (puts_row q) es ≡ 0 = undeclared es w q can (omega arith) in omega arith

@@ -8,52 +8,52 @@ use Rattle.ax_rules.specs.Rules.{start_row, row_or}
 use Rattle.ax_projections.specs.Table.{look_up}
 use Rattle.ax_state.specs.Every.{AllFrom, count, one}
 use Rattle.ax_state.specs.Setting.{Setting, IsSetting, projection_at}
-use Rattle.ax_state.specs.State.{Shelf}
+use Rattle.ax_state.specs.State.{ProcessorState}
 use Rattle.ax_state.specs.Positions.{first_letter, drops_of}
 use Rattle.ax_state.specs.Portions.{portions, covered_events, position_by, row_by}
 use Rattle.ax_state.specs.WellFormed.{IsWellFormed}
-use Rattle.ax_world.specs.Whole.{Whole, Place, Room, state_of, place_at, rows_room}
-use Rattle.ax_world.specs.Made.{made, made_all}
+use Rattle.ax_world.specs.WorldTables.{WorldTables, ProcessorTables, Room, state_of, processor_tables_at, rows_room}
+use Rattle.ax_world.specs.EditsApplied.{edit_applied, edits_applied}
 use Rattle.ax_projections.specs.declared.table.Positioned.{Positioned}
 use Rattle.ax_world.specs.declared.edit.Edit.{Edit}
 
 -- ---- worlds
 
 -- the row of an aggregate by the covered events cs, where its position is at least 1
-abbrev pub row_if : Setting → ℕ → List Stored → Shelf → Name → ℕ → Option Positioned
-row_if setting p cs shelf a n =
-    if nat_lt 0 n then Some (record { position = n; row = row_or (start_row (projection_at setting p).fields) (row_by (projection_at setting p) setting.sheet.chain cs (first_letter shelf a) (drops_of shelf) a) }) else None
+abbrev pub row_if : Setting → ℕ → List Stored → ProcessorState → Name → ℕ → Option Positioned
+row_if setting p cs processor_state a n =
+    if nat_lt 0 n then Some (record { position = n; row = row_or (start_row (projection_at setting p).fields) (row_by (projection_at setting p) setting.sheet.chain cs (first_letter processor_state a) (drops_of processor_state) a) }) else None
 
-abbrev pub folded_row : Setting → ℕ → List Stored → Shelf → Name → Option Positioned
-folded_row setting p cs shelf a = row_if setting p cs shelf a (position_by setting.sheet.chain cs (first_letter shelf a) a)
+abbrev pub folded_row : Setting → ℕ → List Stored → ProcessorState → Name → Option Positioned
+folded_row setting p cs processor_state a = row_if setting p cs processor_state a (position_by setting.sheet.chain cs (first_letter processor_state a) a)
 
 -- each kept row is the fold of the log, and each fold is kept
-abbrev pub IsTable : Setting → List Stored → ℕ → Place → Type 0
-IsTable setting es p x = (a : Name) → look_up a x.table ≡ folded_row setting p (covered_events (portions x.shelf.rows) es) x.shelf a
+abbrev pub IsTable : Setting → List Stored → ℕ → ProcessorTables → Type 0
+IsTable setting es p x = (a : Name) → look_up a x.table ≡ folded_row setting p (covered_events (portions x.processor_state.rows) es) x.processor_state a
 
-pub record IsWorld (w : Whole) : Type 0 where
+pub record IsWorld (w : WorldTables) : Type 0 where
   pub setting : IsSetting w.setting
   pub state : IsWellFormed (state_of w)
-  pub tables : AllFrom (IsTable w.setting (events w.cells)) 0 w.places
+  pub tables : AllFrom (IsTable w.setting (events w.cells)) 0 w.processor_tables
 
 -- ---- edits
 
 -- a new row finds a place in its table
-abbrev pub HasPlaceFor : Name → Place → Type 0
+abbrev pub HasPlaceFor : Name → ProcessorTables → Type 0
 HasPlaceFor a x = look_up a x.table ≡ None → length x.table < 2 ^ 32 - 1
 
 -- its numbers are declared, and its calls have their conditions, room apart
-abbrev pub CanMake : Whole → Edit → Type 0
+abbrev pub CanMake : WorldTables → Edit → Type 0
 CanMake w (Edit.Clock now) = Unit {0}
 CanMake w (Edit.Fence fence) = Unit {0}
 CanMake w (Edit.Cells puts) = CanPutAll w.cells puts
-CanMake w (Edit.SetRows p rows) = p < length w.places
-CanMake w (Edit.PutRow p a v) = (p < length w.places) × HasPlaceFor a (place_at w p)
+CanMake w (Edit.SetRows p rows) = p < length w.processor_tables
+CanMake w (Edit.PutRow p a v) = (p < length w.processor_tables) × HasPlaceFor a (processor_tables_at w p)
 CanMake w (Edit.SetDesk k desk) = k < length w.desks
 
-abbrev pub CanMakeAll : Whole → List Edit → Type 0
+abbrev pub CanMakeAll : WorldTables → List Edit → Type 0
 CanMakeAll w [] = Unit {0}
-CanMakeAll w (e ∷ es) = CanMake w e × CanMakeAll (made w e) es
+CanMakeAll w (e ∷ es) = CanMake w e × CanMakeAll (edit_applied w e) es
 
 abbrev pub is_cells : Edit → Bool
 is_cells (Edit.Clock now) = false
@@ -64,10 +64,10 @@ is_cells (Edit.PutRow p a v) = false
 is_cells (Edit.SetDesk k desk) = false
 
 -- they can be made one after another, at most one of them puts cells, and what is kept then is a world
-pub record Fits (w : Whole) (es : List Edit) : Type 0 where
+pub record Fits (w : WorldTables) (es : List Edit) : Type 0 where
   pub single : count is_cells es ≤ 1
   pub can : CanMakeAll w es
-  pub world : IsWorld (made_all es w)
+  pub world : IsWorld (edits_applied es w)
 
 -- ---- room
 

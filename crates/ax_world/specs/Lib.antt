@@ -1,4 +1,4 @@
-pub mod Whole
-pub mod Made
+pub mod WorldTables
+pub mod EditsApplied
 pub mod Fits
 pub mod Moves

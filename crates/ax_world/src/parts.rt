@@ -2,11 +2,11 @@ ghost use Rattle.std.specs.Prelude.{◌≡◌, ℕ, ◌+◌, ◌^◌, ◌<◌, �
 ghost use Rattle.std.specs.List.{AllByRecursion};
 ghost use Rattle.ax_log.specs.Puts.{CanPutAll, HasRoom as HasLogRoom, IsKept, put_all};
 ghost use Rattle.ax_state.specs.Every.{count, one};
-ghost use Rattle.ax_world.specs.Whole.{rows_room};
-ghost use Rattle.ax_world.specs.Made.{made, made_all};
+ghost use Rattle.ax_world.specs.WorldTables.{rows_room};
+ghost use Rattle.ax_world.specs.EditsApplied.{edit_applied, edits_applied};
 ghost use Rattle.ax_world.specs.Fits.{CanMake, CanMakeAll, HasCells, HasRoom, Leaves, is_cells, puts_row};
 
-use crate::place::{Place, put_row, reserve_rows, set_rows};
+use crate::place::{ProcessorTables, put_row, reserve_rows, set_rows};
 use crate::{Desk, Edit, Edits};
 use ax_log::{CellPuts, Log};
 use ax_sheet::{Processors, Sheet};
@@ -22,7 +22,7 @@ pub(crate) struct Parts {
     pub(crate) clock: u64,
     pub(crate) fence: u64,
     pub(crate) log: Log,
-    pub(crate) places: Vec<Place>,
+    pub(crate) processor_tables: Vec<ProcessorTables>,
     pub(crate) desks: Vec<Desk>,
 }
 
@@ -31,44 +31,48 @@ impl Model for Parts {
     ghost use Rattle.std.specs.Coded.{codes};
     ghost use Rattle.ax_rules.specs.ExprCode.{coded_expr};
     ghost use Rattle.ax_tokens.specs.TokenCode.{coded_token};
-    ghost use Rattle.ax_world.specs.Whole.{WorldView};
+    ghost use Rattle.ax_world.specs.WorldTables.{WorldTablesView};
 
-    ghost Value = { WorldView };
+    ghost Value = { WorldTablesView };
 
     ghost coded = { Prim.hlevel (codes, coded_expr, coded_token) };
 
     ghost view = { λ w. record {
-      whole = record {
+      tables = record {
         setting = record { sheet = w.sheet; processors = w.processors; actors = w.actors };
         clock = w.clock;
         fence = w.fence;
         cells = w.log.cells;
-        places = map (λ x. x.place) w.places.items;
+        processor_tables = map (λ x. x.place) w.processor_tables.items;
         desks = w.desks.items;
       };
-      room = record { log = w.log.room; rows = map (λ x. x.room) w.places.items };
+      room = record { log = w.log.room; rows = map (λ x. x.room) w.processor_tables.items };
     } };
 }
 
 impl Parts {
     /// Makes one edit. It takes no memory.
     fn make(&mut self, edit: Edit)
-        requires can { CanMake self.old.whole edit }
+        requires can { CanMake self.old.tables edit }
         requires cells { HasCells self.old.room.log edit }
         requires rows { (q : ℕ) → one (puts_row q edit) ≤ rows_room self.old.room q }
-        ensures whole { self.new.whole ≡ made self.old.whole edit }
+        ensures tables { self.new.tables ≡ edit_applied self.old.tables edit }
         ensures room { Leaves self.old.room self.new.room edit }
     {
         match edit {
             Edit::Clock(moment) => self.clock = moment,
             Edit::Fence(fence) => self.fence = fence,
             Edit::Cells(puts) => put_all(&mut self.log, puts),
-            Edit::SetRows { processor, rows } => set_rows(&mut self.places, processor, rows),
+            Edit::SetRows { processor, rows } => set_rows(
+                &mut self.processor_tables,
+                processor,
+                rows,
+            ),
             Edit::PutRow {
                 processor,
                 aggregate,
                 value,
-            } => put_row(&mut self.places, processor, aggregate, value),
+            } => put_row(&mut self.processor_tables, processor, aggregate, value),
             Edit::SetDesk { actor, desk } => self.desks[actor as usize] = desk,
         }
     }
@@ -77,10 +81,10 @@ impl Parts {
 impl Parts {
     /// Makes edits one after another. It takes no memory.
     pub(crate) fn make_all(&mut self, edits: Edits)
-        requires can { CanMakeAll self.old.whole edits }
+        requires can { CanMakeAll self.old.tables edits }
         requires single { count is_cells edits ≤ 1 }
         requires room { HasRoom self.old.room edits }
-        ensures { self.new.whole ≡ made_all edits self.old.whole }
+        ensures { self.new.tables ≡ edits_applied edits self.old.tables }
     {
         for edit in edits.into_parts() {
             self.make(edit);
@@ -89,13 +93,13 @@ impl Parts {
 
     /// Makes room for edits. What is kept stays, also where memory is wanting.
     pub(crate) fn prepare(&mut self, edits: &[Edit]) -> Result<(), NoMemory>
-        requires can { CanMakeAll self.old.whole edits.now }
-        requires few { length self.old.whole.places < 2 ^ 32 }
-        ensures whole { self.new.whole ≡ self.old.whole }
+        requires can { CanMakeAll self.old.tables edits.now }
+        requires few { length self.old.tables.processor_tables < 2 ^ 32 }
+        ensures tables { self.new.tables ≡ self.old.tables }
         ensures room { OnOk result (HasRoom self.new.room edits.now) }
     {
         reserve_cells(&mut self.log, edits)?;
-        reserve_rows(&mut self.places, edits)
+        reserve_rows(&mut self.processor_tables, edits)
     }
 }
 

@@ -1,8 +1,8 @@
 ghost use Rattle.std.specs.Prelude.{◌≡◌, ℕ, ◌+◌, ◌^◌, ◌<◌, ◌≤◌, ◌==◌, map, length, slice_set, OnOk};
 ghost use Rattle.ax_projections.specs.Table.{put_entry};
 ghost use Rattle.ax_state.specs.Every.{count, one};
-ghost use Rattle.ax_world.specs.Whole.{place_in, room_in};
-ghost use Rattle.ax_world.specs.Made.{with_shelf};
+ghost use Rattle.ax_world.specs.WorldTables.{processor_tables_in, room_in};
+ghost use Rattle.ax_world.specs.EditsApplied.{with_state};
 ghost use Rattle.ax_world.specs.Fits.{HasPlaceFor, puts_row};
 
 use crate::Edit;
@@ -13,26 +13,26 @@ use std::marker::Model;
 
 /// What is kept of one processor: how far its segments are, and the rows of its aggregates.
 #[derive(Drop)]
-pub(crate) struct Place {
+pub(crate) struct ProcessorTables {
     pub(crate) rows: Rows,
     pub(crate) table: Table,
 }
 
-impl Model for Place {
+impl Model for ProcessorTables {
     ghost use Rattle.std.specs.Coded.{codes};
     ghost use Rattle.ax_tokens.specs.TokenCode.{coded_token};
-    ghost use Rattle.ax_world.specs.Whole.{PlaceView};
+    ghost use Rattle.ax_world.specs.WorldTables.{ProcessorTablesView};
 
-    ghost Value = { PlaceView };
+    ghost Value = { ProcessorTablesView };
 
     ghost coded = { Prim.hlevel (codes, coded_token) };
 
-    ghost view = { λ x. record { place = record { shelf = record { rows = x.rows }; table = x.table.entries }; room = x.table.room } };
+    ghost view = { λ x. record { place = record { processor_state = record { rows = x.rows }; table = x.table.entries }; room = x.table.room } };
 }
 
-impl Place {
+impl ProcessorTables {
     fn set_rows(&mut self, rows: Rows)
-        ensures place { self.new.place ≡ with_shelf (record self.old.place.shelf { rows = rows }) self.old.place }
+        ensures place { self.new.place ≡ with_state (record self.old.place.processor_state { rows = rows }) self.old.place }
         ensures room { self.new.room ≡ self.old.room }
     {
         self.rows = rows;
@@ -58,23 +58,28 @@ impl Place {
     }
 }
 
-pub(crate) fn set_rows(places: &mut Vec<Place>, processor: u32, rows: Rows)
-    requires { processor < length places.old.items }
-    ensures places { map (λ x. x.place) places.new.items ≡ slice_set (map (λ x. x.place) places.old.items) processor (with_shelf (record (place_in (map (λ x. x.place) places.old.items) processor).shelf { rows = rows }) (place_in (map (λ x. x.place) places.old.items) processor)) }
-    ensures rooms { map (λ x. x.room) places.new.items ≡ map (λ x. x.room) places.old.items }
+pub(crate) fn set_rows(processor_tables: &mut Vec<ProcessorTables>, processor: u32, rows: Rows)
+    requires { processor < length processor_tables.old.items }
+    ensures processor_tables { map (λ x. x.place) processor_tables.new.items ≡ slice_set (map (λ x. x.place) processor_tables.old.items) processor (with_state (record (processor_tables_in (map (λ x. x.place) processor_tables.old.items) processor).processor_state { rows = rows }) (processor_tables_in (map (λ x. x.place) processor_tables.old.items) processor)) }
+    ensures rooms { map (λ x. x.room) processor_tables.new.items ≡ map (λ x. x.room) processor_tables.old.items }
 {
-    let place = &mut places[processor as usize];
+    let place = &mut processor_tables[processor as usize];
     place.set_rows(rows);
 }
 
-pub(crate) fn put_row(places: &mut Vec<Place>, processor: u32, aggregate: Name, value: Positioned)
-    requires declared { processor < length places.old.items }
-    requires place { HasPlaceFor aggregate (place_in (map (λ x. x.place) places.old.items) processor) }
-    requires room { 0 < room_in (map (λ x. x.room) places.old.items) processor }
-    ensures places { map (λ x. x.place) places.new.items ≡ slice_set (map (λ x. x.place) places.old.items) processor (record (place_in (map (λ x. x.place) places.old.items) processor) { table = put_entry aggregate value (place_in (map (λ x. x.place) places.old.items) processor).table }) }
-    ensures rooms { (q : ℕ) → room_in (map (λ x. x.room) places.old.items) q ≤ room_in (map (λ x. x.room) places.new.items) q + one (processor == q) }
+pub(crate) fn put_row(
+    processor_tables: &mut Vec<ProcessorTables>,
+    processor: u32,
+    aggregate: Name,
+    value: Positioned,
+)
+    requires declared { processor < length processor_tables.old.items }
+    requires place { HasPlaceFor aggregate (processor_tables_in (map (λ x. x.place) processor_tables.old.items) processor) }
+    requires room { 0 < room_in (map (λ x. x.room) processor_tables.old.items) processor }
+    ensures processor_tables { map (λ x. x.place) processor_tables.new.items ≡ slice_set (map (λ x. x.place) processor_tables.old.items) processor (record (processor_tables_in (map (λ x. x.place) processor_tables.old.items) processor) { table = put_entry aggregate value (processor_tables_in (map (λ x. x.place) processor_tables.old.items) processor).table }) }
+    ensures rooms { (q : ℕ) → room_in (map (λ x. x.room) processor_tables.old.items) q ≤ room_in (map (λ x. x.room) processor_tables.new.items) q + one (processor == q) }
 {
-    let place = &mut places[processor as usize];
+    let place = &mut processor_tables[processor as usize];
     place.put_row(aggregate, value);
 }
 
@@ -98,14 +103,17 @@ fn rows_put(edits: &[Edit], processor: u32) -> usize
 }
 
 /// Makes room in each table for the rows that the edits put. The rows stay, also where memory is wanting.
-pub(crate) fn reserve_rows(places: &mut Vec<Place>, edits: &[Edit]) -> Result<(), NoMemory>
-    requires { length places.old.items < 2 ^ 32 }
-    ensures places { map (λ x. x.place) places.new.items ≡ map (λ x. x.place) places.old.items }
-    ensures rooms { OnOk result ((q : ℕ) → q < length places.new.items → count (puts_row q) edits.now ≤ room_in (map (λ x. x.room) places.new.items) q) }
+pub(crate) fn reserve_rows(
+    processor_tables: &mut Vec<ProcessorTables>,
+    edits: &[Edit],
+) -> Result<(), NoMemory>
+    requires { length processor_tables.old.items < 2 ^ 32 }
+    ensures processor_tables { map (λ x. x.place) processor_tables.new.items ≡ map (λ x. x.place) processor_tables.old.items }
+    ensures rooms { OnOk result ((q : ℕ) → q < length processor_tables.new.items → count (puts_row q) edits.now ≤ room_in (map (λ x. x.room) processor_tables.new.items) q) }
 {
-    for processor in 0..places.len() {
+    for processor in 0..processor_tables.len() {
         let count = rows_put(edits, processor as u32);
-        let place = &mut places[processor];
+        let place = &mut processor_tables[processor];
         place.reserve(count)?;
     }
     Ok(())

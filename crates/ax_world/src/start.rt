@@ -2,10 +2,10 @@ ghost use Rattle.std.specs.Prelude.{◌≡◌, ◌+◌, ◌^◌, ◌<◌, ◌≤
 ghost use Rattle.std.specs.List.{list_all};
 ghost use Rattle.ax_claims.specs.Rows.{starting};
 ghost use Rattle.ax_sheet.specs.Declarations.{most_processors, is_segment_count};
-ghost use Rattle.ax_state.specs.State.{empty_desk, first_shelves, row_count};
-ghost use Rattle.ax_world.specs.Whole.{bare};
+ghost use Rattle.ax_state.specs.State.{empty_desk, first_processors, row_count};
+ghost use Rattle.ax_world.specs.WorldTables.{bare};
 
-use crate::place::Place;
+use crate::place::ProcessorTables;
 use crate::{Desk, HeldList};
 use ax_claims::Rows;
 use ax_projections::Table;
@@ -14,27 +14,30 @@ use ax_values::{Name, NoMemory};
 use std::alloc::Global;
 
 /// The first rows of each processor, with fences from 1 on by processor and id.
-pub(crate) fn first_places(alloc: Global, processors: &[Processor]) -> Result<Vec<Place>, NoMemory>
+pub(crate) fn first_places(
+    alloc: Global,
+    processors: &[Processor],
+) -> Result<Vec<ProcessorTables>, NoMemory>
     requires few { length processors.now ≤ most_processors }
     requires counts { IsTrue (list_all (λ q. is_segment_count q.segments) processors.now) }
-    ensures { IfOk result (λ places. map (λ x. x.place) places.items ≡ map bare (first_shelves processors.now 1)) }
+    ensures { IfOk result (λ processor_tables. map (λ x. x.place) processor_tables.items ≡ map bare (first_processors processors.now 1)) }
 {
-    let mut places = Vec::with_capacity(alloc, processors.len())?;
+    let mut processor_tables = Vec::with_capacity(alloc, processors.len())?;
     let mut fence = 1;
     for processor in processors {
-        places.push(first_place(alloc, processor.segments, fence)?)?;
+        processor_tables.push(first_place(alloc, processor.segments, fence)?)?;
         fence += processor.segments as u64;
     }
-    Ok(places)
+    Ok(processor_tables)
 }
 
 #[tactic(auto, using(crate::proofs::Segments::segment_counts))]
-fn first_place(alloc: Global, segments: u32, fence: u64) -> Result<Place, NoMemory>
+fn first_place(alloc: Global, segments: u32, fence: u64) -> Result<ProcessorTables, NoMemory>
     requires count { IsTrue (is_segment_count segments) }
     requires fences { fence < 2 ^ 60 }
     ensures { IfOk result (λ x. x.place ≡ bare (record { rows = starting segments fence })) }
 {
-    Ok(Place {
+    Ok(ProcessorTables {
         rows: Rows::start(alloc, segments, fence)?,
         table: Table::new(alloc),
     })

@@ -2,8 +2,9 @@ ghost use Rattle.std.specs.Prelude.{◌≡◌, ◌+◌, ◌^◌, ◌<◌, ◌≤
 ghost use Rattle.std.specs.Option.{option_copied};
 ghost use Rattle.ax_state.specs.Every.{count};
 ghost use Rattle.ax_state.specs.Setting.{IsSetting, is_projection, processor_number, projection_at};
-ghost use Rattle.ax_world.specs.Whole.{starting, place_at};
-ghost use Rattle.ax_world.specs.Made.{made_all};
+ghost use Rattle.ax_state.specs.State.{actor_name};
+ghost use Rattle.ax_world.specs.WorldTables.{starting, state_of, processor_tables_at};
+ghost use Rattle.ax_world.specs.EditsApplied.{edits_applied};
 ghost use Rattle.ax_world.specs.Fits.{IsWorld, Fits, HasRoom};
 
 use crate::named::number_of;
@@ -30,16 +31,16 @@ impl Model for World {
     ghost use Rattle.std.specs.Coded.{codes};
     ghost use Rattle.ax_rules.specs.ExprCode.{coded_expr};
     ghost use Rattle.ax_tokens.specs.TokenCode.{coded_token};
-    ghost use Rattle.ax_world.specs.Whole.{WorldView};
+    ghost use Rattle.ax_world.specs.WorldTables.{WorldTablesView};
     ghost use Rattle.ax_world.specs.Fits.{IsWorld};
 
-    ghost Value = { WorldView };
+    ghost Value = { WorldTablesView };
 
     ghost coded = { Prim.hlevel (codes, coded_expr, coded_token) };
 
     ghost view = { λ w. w.parts };
 
-    ghost invariant = { λ w. IsWorld w.parts.whole };
+    ghost invariant = { λ w. IsWorld w.parts.tables };
 }
 
 impl World {
@@ -52,9 +53,9 @@ impl World {
         actors: Names,
     ) -> Result<World, NoMemory>
         requires { IsSetting (record { sheet = sheet; processors = processors; actors = actors }) }
-        ensures { IfOk result (λ world. world.whole ≡ starting (record { sheet = sheet; processors = processors; actors = actors })) }
+        ensures { IfOk result (λ world. world.tables ≡ starting (record { sheet = sheet; processors = processors; actors = actors })) }
     {
-        let places = first_places(alloc, processors.parts())?;
+        let processor_tables = first_places(alloc, processors.parts())?;
         let desks = empty_desks(alloc, actors.parts())?;
         let fence = row_count(processors.parts());
         let _ = sheet.commands();
@@ -66,38 +67,38 @@ impl World {
                 clock: 0,
                 fence,
                 log: Log::new(alloc),
-                places,
+                processor_tables,
                 desks,
             },
         })
     }
 
     pub fn sheet(&self) -> &Sheet
-        ensures { result.now ≡ self.now.whole.setting.sheet }
+        ensures { result.now ≡ self.now.tables.setting.sheet }
     {
         &self.parts.sheet
     }
 
     /// The processors, in the order of the head.
     pub fn processors(&self) -> &Processors
-        ensures { result.now ≡ self.now.whole.setting.processors }
+        ensures { result.now ≡ self.now.tables.setting.processors }
     {
         &self.parts.processors
     }
 
     /// The number of the processor of this name; how many there are, where none has it.
     pub fn processor(&self, name: &Name) -> u32
-        ensures { result ≡ processor_number self.now.whole.setting.processors name.now }
+        ensures { result ≡ processor_number self.now.tables.setting.processors name.now }
     {
         number_of(self.parts.processors.parts(), name)
     }
 
     /// The rules of a projection processor.
     pub fn projection(&self, processor: u32) -> &Rules
-        requires { IsTrue (is_projection self.now.whole.setting processor) }
-        ensures { result.now ≡ projection_at self.now.whole.setting processor }
+        requires { IsTrue (is_projection self.now.tables.setting processor) }
+        ensures { result.now ≡ projection_at self.now.tables.setting processor }
     {
-        let _ = self.clock();
+        self.facts();
         let declared = &self.processors().parts()[processor as usize];
         let Some(rules) = self.sheet().projection(&declared.name) else {
             unreachable!()
@@ -107,61 +108,76 @@ impl World {
 
     /// The actors, in the order of the head.
     pub fn actors(&self) -> &Names
-        ensures { result.now ≡ self.now.whole.setting.actors }
+        ensures { result.now ≡ self.now.tables.setting.actors }
     {
         &self.parts.actors
     }
 
+    /// The name of an actor.
+    pub fn actor_name(&self, actor: u32) -> &Name
+        requires { actor < length self.now.tables.setting.actors }
+        ensures { result.now ≡ actor_name (state_of self.now.tables) actor }
+    {
+        &self.parts.actors.parts()[actor as usize]
+    }
+
+    /// Says to a proof that the state is well formed and each kept row is the fold of the log. It does nothing.
+    pub fn facts(&self)
+        ensures { IsWorld self.now.tables }
+    {
+        let _ = &self.parts;
+    }
+
     /// In milliseconds.
     pub fn clock(&self) -> u64
-        ensures value { result ≡ self.now.whole.clock }
-        ensures world { IsWorld self.now.whole }
+        ensures value { result ≡ self.now.tables.clock }
+        ensures world { IsWorld self.now.tables }
     {
         self.parts.clock
     }
 
     /// The last fence that was given.
     pub fn fence(&self) -> u64
-        ensures value { result ≡ self.now.whole.fence }
+        ensures value { result ≡ self.now.tables.fence }
     {
         self.parts.fence
     }
 
     pub fn log(&self) -> &Log
-        ensures value { result.now.cells ≡ self.now.whole.cells }
-        ensures world { IsWorld self.now.whole }
+        ensures value { result.now.cells ≡ self.now.tables.cells }
+        ensures world { IsWorld self.now.tables }
     {
         &self.parts.log
     }
 
     /// The token rows of a processor.
     pub fn rows(&self, processor: u32) -> &Rows
-        requires { processor < length self.now.whole.places }
-        ensures { result.now ≡ (place_at self.now.whole processor).shelf.rows }
+        requires { processor < length self.now.tables.processor_tables }
+        ensures { result.now ≡ (processor_tables_at self.now.tables processor).processor_state.rows }
     {
-        &self.parts.places[processor as usize].rows
+        &self.parts.processor_tables[processor as usize].rows
     }
 
     /// The rows of a projection processor.
     pub fn table(&self, processor: u32) -> &Table
-        requires { processor < length self.now.whole.places }
-        ensures { result.now.entries ≡ (place_at self.now.whole processor).table }
+        requires { processor < length self.now.tables.processor_tables }
+        ensures { result.now.entries ≡ (processor_tables_at self.now.tables processor).table }
     {
-        &self.parts.places[processor as usize].table
+        &self.parts.processor_tables[processor as usize].table
     }
 
     /// What an actor holds.
     pub fn desk(&self, actor: u32) -> &Desk
-        requires { actor < length self.now.whole.desks }
-        ensures { slice_get self.now.whole.desks actor ≡ Some result.now }
+        requires { actor < length self.now.tables.desks }
+        ensures { slice_get self.now.tables.desks actor ≡ Some result.now }
     {
         &self.parts.desks[actor as usize]
     }
 
     /// Makes room for the edits. What is kept stays, also where memory is wanting.
     pub fn prepare(&mut self, edits: &Edits) -> Result<(), NoMemory>
-        requires { Fits self.old.whole edits.now }
-        ensures whole { self.new.whole ≡ self.old.whole }
+        requires { Fits self.old.tables edits.now }
+        ensures tables { self.new.tables ≡ self.old.tables }
         ensures room { OnOk result (HasRoom self.new.room edits.now) }
     {
         self.parts.prepare(edits.parts())
@@ -169,9 +185,9 @@ impl World {
 
     /// Makes the edits, one after another. It takes no memory.
     pub fn install(&mut self, edits: Edits)
-        requires fits { Fits self.old.whole edits }
+        requires fits { Fits self.old.tables edits }
         requires room { HasRoom self.old.room edits }
-        ensures { self.new.whole ≡ made_all edits self.old.whole }
+        ensures { self.new.tables ≡ edits_applied edits self.old.tables }
     {
         self.parts.make_all(edits);
     }

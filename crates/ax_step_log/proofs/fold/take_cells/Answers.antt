@@ -1,6 +1,6 @@
 use Rattle.std.proofs.Common.{ap, ◌∙◌, ◌+◌, drop}
 use Rattle.ax_rules.specs.Rules.{lenient_from}
-use Rattle.ax_step_log.specs.Made.{found_items, listed_items}
+use Rattle.ax_step_log.specs.SendParts.{found_items, listed_items}
 use Rattle.ax_step_log.proofs.Items.{next-cell}
 use Rattle.ax_step_log.proofs.fold.take_cells.Goals as goal
 

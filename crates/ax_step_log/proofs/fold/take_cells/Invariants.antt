@@ -1,7 +1,7 @@
 -- the items of the cells that are left lead to the row of all
 use Rattle.std.proofs.Common.{◌≡◌, length, drop}
 use Rattle.ax_rules.specs.Rules.{lenient_from}
-use Rattle.ax_step_log.specs.Made.{listed_items}
+use Rattle.ax_step_log.specs.SendParts.{listed_items}
 use Rattle.ax_step_log.proofs.fold.take_cells.Given as goal
 
 abbrev pub invariant-loop-index : goal.invariant-loop-index

@@ -2,7 +2,7 @@ use Rattle.std.proofs.Common.{ℕ, suc, ◌+◌, ◌-◌, ◌<◌, ◌≡◌, �
 use Rattle.std.specs.Prelude.{slice_get, if◌then◌else◌}
 use Rattle.std.proofs.lemmas.Grind.{common_steps}
 use Rattle.ax_log.specs.Log.{is_reserved, option_is}
-use Rattle.ax_step_log.specs.Made.{void_puts}
+use Rattle.ax_step_log.specs.SendParts.{void_puts}
 use Rattle.ax_values.specs.declared.cell.Cell.{Cell}
 use Rattle.ax_step_log.proofs.puts.void_puts.Goals as goal
 

@@ -1,6 +1,6 @@
 -- the puts so far, and those that are left
 use Rattle.std.proofs.Common.{◌≡◌, ◌+◌, ◌-◌, ◌++◌}
-use Rattle.ax_step_log.specs.Made.{void_puts}
+use Rattle.ax_step_log.specs.SendParts.{void_puts}
 use Rattle.ax_step_log.proofs.puts.void_puts.Given as goal
 
 abbrev pub invariant-loop-place : goal.invariant-loop-place

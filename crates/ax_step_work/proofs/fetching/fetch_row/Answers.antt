@@ -11,9 +11,9 @@ use Rattle.ax_journal.specs.declared.reply.Reply.{Reply}
 
 pub returns : goal.returns
 returns c =
-    subst (IsMove c.args.world.now.whole _)
+    subst (IsMove c.args.world.now.tables _)
     (sym (c.of.ensures ∙ ap (λ es. record { edits = es; reply = Reply.Fetched c.count_fetched-records.result; report = [] }) (c.in_ok-push.ensures.ok ∙ ap (λ es. es ++ Edit.SetDesk c.args.actor c.in_ok-desk.desk ∷ []) c.new-edits.ensures)))
-    (fetch-move c.args.world.now.whole c.args.actor c.args.processor c.args.most c.args.row.now c.desk.result.now c.in_ok-desk.desk (token_of c.in_ok-copy.field-0) (token_of c.in_ok-new.new) c.cells-cells.result.now c.count_fetched-records.result
+    (fetch-move c.args.world.now.tables c.args.actor c.args.processor c.args.most c.args.row.now c.desk.result.now c.in_ok-desk.desk (token_of c.in_ok-copy.field-0) (token_of c.in_ok-new.new) c.cells-cells.result.now c.count_fetched-records.result
     c.log.ensures.world c.requires.projection c.requires.actor c.requires.found c.requires.held c.desk.ensures (c.cells-cells.ensures.value ∙ c.log.ensures.value) (ap token_of c.in_ok-copy.ensures ∙ ap (λ (r : TokenRow). r.token) c.row.view_is)
     (c.in_ok-new.ensures ∙ ap (λ (r : TokenRow). fetched_token r.segment r.token c.cells-cells.result.now c.args.most) c.row.view_is)
     (c.in_ok-desk.ensures

@@ -1,5 +1,6 @@
 use Rattle.std.proofs.Common.{◌∙◌, ◌≤◌, length, sym, subst}
-use Rattle.ax_step_work.proofs.Handled.{none-of, cell-step, cell-failed}
+use Rattle.ax_step_work.proofs.Handled.{cell-step, cell-failed}
+use Rattle.ax_laws.proofs.Options.{none-of}
 use Rattle.ax_step_work.proofs.handling.handle_batch.Goals as goal
 
 pub returns-in-Some : goal.returns-in-Some

@@ -1,4 +1,5 @@
-use Rattle.ax_step_work.proofs.Handled.{none-of, item-step}
+use Rattle.ax_step_work.proofs.Handled.{item-step}
+use Rattle.ax_laws.proofs.Options.{none-of}
 use Rattle.ax_step_work.proofs.handling.handle_items.Goals as goal
 
 pub loop-item-preserved : goal.loop-item-preserved

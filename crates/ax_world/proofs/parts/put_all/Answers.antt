@@ -1,7 +1,7 @@
 use Rattle.std.proofs.Common.{◌≡◌, ◌∙◌, ◌∷◌, sym, ap, subst}
 use Rattle.std.specs.Vec.Iter.{into_iter_items}
 use Rattle.ax_log.specs.Puts.{LogView, CanPutAll, HasRoom, put_all}
-use Rattle.ax_log.proofs.Made.{room-behind}
+use Rattle.ax_log.proofs.CellsMade.{room-behind}
 use Rattle.ax_world.proofs.parts.put_all.Goals as goal
 
 pub loop-change-preserved : goal.loop-change-preserved

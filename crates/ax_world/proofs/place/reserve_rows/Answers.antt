@@ -1,18 +1,18 @@
 use Rattle.std.proofs.Common.{rules, ◌∙◌}
 use Rattle.std.proofs.lemmas.List.{length-set}
 use Rattle.ax_state.specs.Every.{count}
-use Rattle.ax_world.specs.Whole.{empty_place}
+use Rattle.ax_world.specs.WorldTables.{no_tables}
 use Rattle.ax_world.specs.Fits.{puts_row}
-use Rattle.ax_world.proofs.Kept.{unseen, rooms-next}
+use Rattle.ax_world.proofs.OneProcessorChanges.{unseen, rooms-next}
 use Rattle.ax_world.proofs.place.reserve_rows.Goals as goal
 
-pub returns-in_err-reserve-clause-places : goal.returns-in_err-reserve-clause-places
-returns-in_err-reserve-clause-places c =
-    unseen (λ x. x.place) empty_place c.loop-processor.places.items c.loop-processor.processor c.index_mut-place.result.now c.reserve.new.self (search rules) c.index_mut-place.ensures.value c.reserve.ensures.place ∙ c.loop-processor.invariant.1
+pub returns-in_err-reserve-clause-processor_tables : goal.returns-in_err-reserve-clause-processor_tables
+returns-in_err-reserve-clause-processor_tables c =
+    unseen (λ x. x.place) no_tables c.loop-processor.processor_tables.items c.loop-processor.processor c.index_mut-place.result.now c.reserve.new.self (search rules) c.index_mut-place.ensures.value c.reserve.ensures.place ∙ c.loop-processor.invariant.1
 
 pub loop-processor-preserved : goal.loop-processor-preserved
 loop-processor-preserved c = (
-  length-set c.loop-processor.places.items c.loop-processor.processor c.reserve.new.self ∙ c.loop-processor.invariant.0,
-  unseen (λ x. x.place) empty_place c.loop-processor.places.items c.loop-processor.processor c.index_mut-place.result.now c.reserve.new.self (search rules) c.index_mut-place.ensures.value c.reserve.ensures.place ∙ c.loop-processor.invariant.1,
-  rooms-next (λ q. count (puts_row q) c.args.edits.now) c.loop-processor.places.items c.loop-processor.processor c.reserve.new.self (search rules) (search rules) c.loop-processor.invariant.2,
+  length-set c.loop-processor.processor_tables.items c.loop-processor.processor c.reserve.new.self ∙ c.loop-processor.invariant.0,
+  unseen (λ x. x.place) no_tables c.loop-processor.processor_tables.items c.loop-processor.processor c.index_mut-place.result.now c.reserve.new.self (search rules) c.index_mut-place.ensures.value c.reserve.ensures.place ∙ c.loop-processor.invariant.1,
+  rooms-next (λ q. count (puts_row q) c.args.edits.now) c.loop-processor.processor_tables.items c.loop-processor.processor c.reserve.new.self (search rules) (search rules) c.loop-processor.invariant.2,
 )

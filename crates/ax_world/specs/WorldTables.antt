@@ -4,53 +4,53 @@ use Rattle.ax_log.specs.Puts.{Room as LogRoom}
 use Rattle.ax_projections.specs.Table.{Entry}
 use Rattle.ax_state.specs.Every.{option_or}
 use Rattle.ax_state.specs.Setting.{Setting}
-use Rattle.ax_state.specs.State.{State, Shelf, Desk, empty_shelf, empty_desk, first_shelves, row_count}
+use Rattle.ax_state.specs.State.{State, ProcessorState, Desk, empty_processor, empty_desk, first_processors, row_count}
 use Rattle.ax_values.specs.declared.cell.Cell.{Cell}
 
 -- of one processor: the part of the state, and the rows of its aggregates
-pub record Place : Type 0 where
-  pub shelf : Shelf
+pub record ProcessorTables : Type 0 where
+  pub processor_state : ProcessorState
   pub table : List Entry
 
-pub record Whole : Type 0 where
+pub record WorldTables : Type 0 where
   pub setting : Setting
   pub clock : ℕ
   pub fence : ℕ
   pub cells : List Cell
-  pub places : List Place
+  pub processor_tables : List ProcessorTables
   pub desks : List Desk
 
 -- the state that a whole stands for
-abbrev pub state_of : Whole → State
+abbrev pub state_of : WorldTables → State
 state_of w = record {
   setting = w.setting;
   clock = w.clock;
   fence = w.fence;
   cells = w.cells;
-  shelves = map (λ x. x.shelf) w.places;
+  processor_states = map (λ x. x.processor_state) w.processor_tables;
   desks = w.desks;
 }
 
-abbrev pub empty_place : Place
-empty_place = record { shelf = empty_shelf; table = [] }
+abbrev pub no_tables : ProcessorTables
+no_tables = record { processor_state = empty_processor; table = [] }
 
-abbrev pub place_in : List Place → ℕ → Place
-place_in places p = option_or empty_place (slice_get places p)
+abbrev pub processor_tables_in : List ProcessorTables → ℕ → ProcessorTables
+processor_tables_in processor_tables p = option_or no_tables (slice_get processor_tables p)
 
-abbrev pub place_at : Whole → ℕ → Place
-place_at w p = place_in w.places p
+abbrev pub processor_tables_at : WorldTables → ℕ → ProcessorTables
+processor_tables_at w p = processor_tables_in w.processor_tables p
 
 -- no row is kept at the start
-abbrev pub bare : Shelf → Place
-bare shelf = record { shelf = shelf; table = [] }
+abbrev pub bare : ProcessorState → ProcessorTables
+bare processor_state = record { processor_state = processor_state; table = [] }
 
-abbrev pub starting : Setting → Whole
+abbrev pub starting : Setting → WorldTables
 starting s = record {
   setting = s;
   clock = 0;
   fence = row_count s.processors;
   cells = [];
-  places = map bare (first_shelves s.processors 1);
+  processor_tables = map bare (first_processors s.processors 1);
   desks = map (λ actor. empty_desk) s.actors;
 }
 
@@ -66,10 +66,10 @@ room_in rooms p = option_or 0 (slice_get rooms p)
 abbrev pub rows_room : Room → ℕ → ℕ
 rows_room room p = room_in room.rows p
 
-pub record WorldView : Type 0 where
-  pub whole : Whole
+pub record WorldTablesView : Type 0 where
+  pub tables : WorldTables
   pub room : Room
 
-pub record PlaceView : Type 0 where
-  pub place : Place
+pub record ProcessorTablesView : Type 0 where
+  pub place : ProcessorTables
   pub room : ℕ

@@ -1,17 +1,16 @@
 -- A row put in the place of that of its segment: what is read off segments and tokens, and how often a fence stands.
 use Rattle.std.specs.Prelude.{◌≡◌, ℕ, zero, suc, ◌+◌, ◌<◌, ◌≤◌, ◌==◌, ◌&&◌, Bool, true, false, List, [], ◌∷◌, Some, slice_get, slice_set, nat_lt, if◌then◌else◌}
 use Rattle.std.specs.List.{AllByRecursion}
-use Rattle.std.proofs.Common.{refl, ap, ap₂, sym, ◌∙◌, subst, arith}
+use Rattle.std.proofs.Common.{refl, ap, sym, ◌∙◌, subst, arith}
 use Rattle.std.proofs.lemmas.Bool.Decides.{nat_tests}
 use Rattle.ax_values.specs.Words.{rises}
-use Rattle.ax_values.proofs.Options.{both}
 use Rattle.ax_segments.specs.Segments.{Segment, same_segment}
 use Rattle.ax_claims.specs.Rows.{TokenRow, row_at, put_row, row_cmp, row_below}
-use Rattle.ax_claims.proofs.Places.{put-here}
+use Rattle.ax_claims.proofs.RowPlaces.{put-here, same-segment}
 use Rattle.ax_state.specs.Every.{count, one}
-use Rattle.ax_state.specs.State.{Shelf}
+use Rattle.ax_state.specs.State.{ProcessorState}
 use Rattle.ax_state.specs.Portions.{Portion, portion_of, portions}
-use Rattle.ax_state.specs.WellFormed.{AreParts, IsFencedShelf, fence_count}
+use Rattle.ax_state.specs.WellFormed.{AreParts, IsFencedProcessor, fence_count}
 use Rattle.ax_state.proofs.Lists.{All-map, count-put, count-none}
 
 -- ---- portions
@@ -28,12 +27,6 @@ rises-portions : (rows : List TokenRow) → rises row_below rows ≡ rises below
 rises-portions [] = refl
 rises-portions (x ∷ []) = refl
 rises-portions (x ∷ y ∷ rows) = ap (λ b. row_below x y && b) (rises-portions (y ∷ rows))
-
-same-segment : (s t : Segment) → same_segment s t ≡ true → s ≡ t
-same-segment s t h =
-    let b = both (s.id == t.id) (s.mask == t.mask) h in
-    let id : s.id ≡ t.id = grind (arith, nat_tests, b.0) in
-    let mask : s.mask ≡ t.mask = grind (arith, nat_tests, b.1) in ap₂ (λ i m. record { id = i; mask = m }) id mask
 
 -- the place of a row that is found, and its segment
 pub found-row : (s : Segment) (rows : List TokenRow) (r : TokenRow) → row_at s rows ≡ Some r → (p : ℕ) × (slice_get rows p ≡ Some r) × (r.segment ≡ s)
@@ -53,14 +46,14 @@ portions-put s rows r n h e same =
 
 -- ---- fences
 
-fence_count-set : (f : ℕ) (ss : List Shelf) (p : ℕ) (s n : Shelf) (d : ℕ) → slice_get ss p ≡ Some s → count (λ r. r.fence == f) n.rows ≤ count (λ r. r.fence == f) s.rows + d
+fence_count-set : (f : ℕ) (ss : List ProcessorState) (p : ℕ) (s n : ProcessorState) (d : ℕ) → slice_get ss p ≡ Some s → count (λ r. r.fence == f) n.rows ≤ count (λ r. r.fence == f) s.rows + d
     → fence_count f (slice_set ss p n) ≤ fence_count f ss + d
 fence_count-set f [] p s n d e h = absurd (cc)
 fence_count-set f (x ∷ xs) zero s n d e h = let is : x ≡ s = cc in rw is (omega arith)
 fence_count-set f (x ∷ xs) (suc p) s n d e h = let ih : fence_count f (slice_set xs p n) ≤ fence_count f xs + d = fence_count-set f xs p s n d e h in omega arith
 
 -- a row that is put adds its own fence at most
-pub fence_count-put : (f : ℕ) (ss : List Shelf) (p : ℕ) (s : Shelf) (row : TokenRow) → slice_get ss p ≡ Some s
+pub fence_count-put : (f : ℕ) (ss : List ProcessorState) (p : ℕ) (s : ProcessorState) (row : TokenRow) → slice_get ss p ≡ Some s
     → fence_count f (slice_set ss p (record s { rows = put_row row s.rows })) ≤ fence_count f ss + one (row.fence == f)
 fence_count-put f ss p s row e = fence_count-set f ss p s (record s { rows = put_row row s.rows }) (one (row.fence == f)) e (count-put (λ r. r.fence == f) row_cmp row s.rows)
 
@@ -68,11 +61,11 @@ not-next : (f g : ℕ) → g ≤ f → (g == suc f) ≡ false
 not-next f g h = grind (arith, nat_tests)
 
 -- no row has a fence above the counter
-pub fence_count-next : (fence : ℕ) (ss : List Shelf) → AllByRecursion (IsFencedShelf fence) ss → fence_count (suc fence) ss ≡ 0
+pub fence_count-next : (fence : ℕ) (ss : List ProcessorState) → AllByRecursion (IsFencedProcessor fence) ss → fence_count (suc fence) ss ≡ 0
 fence_count-next fence [] h = refl
 fence_count-next fence (s ∷ ss) h =
     let rows : count (λ r. r.fence == suc fence) s.rows ≡ 0 = count-none (λ r. r.fence == suc fence) s.rows (All-map (λ r. (0 < r.fence) × (r.fence ≤ fence)) (λ r. (r.fence == suc fence) ≡ false) (λ r k. not-next fence r.fence k.1) s.rows h.0) in
     let rest : fence_count (suc fence) ss ≡ 0 = fence_count-next fence ss h.1 in omega arith
 
-pub fenced-later : (fence : ℕ) (s : Shelf) → IsFencedShelf fence s → IsFencedShelf (suc fence) s
+pub fenced-later : (fence : ℕ) (s : ProcessorState) → IsFencedProcessor fence s → IsFencedProcessor (suc fence) s
 fenced-later fence s h = All-map (λ r. (0 < r.fence) × (r.fence ≤ fence)) (λ r. (0 < r.fence) × (r.fence ≤ suc fence)) (λ r k. (k.0, (let le : r.fence ≤ fence = k.1 in omega arith))) s.rows h

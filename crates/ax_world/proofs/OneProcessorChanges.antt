@@ -3,7 +3,7 @@ use Rattle.std.proofs.Common.{◌≡◌, ℕ, zero, suc, ◌+◌, ◌<◌, ◌�
 use Rattle.std.proofs.lemmas.Bool.Decides.{nat_tests}
 use Rattle.std.proofs.lemmas.List.{length-map}
 use Rattle.ax_state.specs.Every.{option_or, one}
-use Rattle.ax_world.specs.Whole.{PlaceView, room_in}
+use Rattle.ax_world.specs.WorldTables.{ProcessorTablesView, room_in}
 
 pub map_set : {A B : Type 0} (f : A → B) (xs : List A) (p : ℕ) (y : A) → map f (slice_set xs p y) ≡ slice_set (map f xs) p (f y)
 map_set f [] p y = refl
@@ -41,7 +41,7 @@ placed f d g xs p x y h e k = map_set f xs p y ∙ ap (slice_set (map f xs) p) (
 pub unseen : {A B : Type 0} (f : A → B) (d : B) (xs : List A) (p : ℕ) (x y : A) → p < length xs → x ≡ get_or xs p x → f y ≡ f x → map f (slice_set xs p y) ≡ map f xs
 unseen f d xs p x y h e k = map_set f xs p y ∙ ap (slice_set (map f xs) p) (k ∙ sym (at_map f d xs p x h e)) ∙ set_same d (map f xs) p
 
-pub rooms-used : (xs : List PlaceView) (p : ℕ) (x y : PlaceView) → p < length xs → x ≡ get_or xs p x → x.room ≤ y.room + 1 → (q : ℕ) → room_in (map (λ x. x.room) xs) q ≤ room_in (map (λ x. x.room) (slice_set xs p y)) q + one (p == q)
+pub rooms-used : (xs : List ProcessorTablesView) (p : ℕ) (x y : ProcessorTablesView) → p < length xs → x ≡ get_or xs p x → x.room ≤ y.room + 1 → (q : ℕ) → room_in (map (λ x. x.room) xs) q ≤ room_in (map (λ x. x.room) (slice_set xs p y)) q + one (p == q)
 rooms-used xs p x y h e k q =
     let was : room_in (map (λ x. x.room) xs) p ≡ x.room = at_map (λ x. x.room) 0 xs p x h e in
     subst (λ rooms. room_in (map (λ x. x.room) xs) q ≤ room_in rooms q + one (p == q)) (sym (map_set (λ x. x.room) xs p y))
@@ -59,7 +59,7 @@ at-set (r ∷ rs) zero n h = refl
 at-set (r ∷ rs) (suc p) n h = at-set rs p n (omega arith)
 
 -- with room in one table more
-pub rooms-next : (need : ℕ → ℕ) (xs : List PlaceView) (p : ℕ) (y : PlaceView) → p < length xs → need p ≤ y.room → ((q : ℕ) → q < p → need q ≤ room_in (map (λ x. x.room) xs) q)
+pub rooms-next : (need : ℕ → ℕ) (xs : List ProcessorTablesView) (p : ℕ) (y : ProcessorTablesView) → p < length xs → need p ≤ y.room → ((q : ℕ) → q < p → need q ≤ room_in (map (λ x. x.room) xs) q)
     → (q : ℕ) → q < p + 1 → need q ≤ room_in (map (λ x. x.room) (slice_set xs p y)) q
 rooms-next need xs p y h enough so_far q lt =
     subst (λ rooms. need q ≤ room_in rooms q) (sym (map_set (λ x. x.room) xs p y)) (at (p == q) refl)
