@@ -3,15 +3,58 @@ ghost use Rattle.ax_log.specs.Log.{put_at};
 ghost use Rattle.ax_log.specs.Puts.{CanPut, CanPutAll, put_all};
 ghost use Rattle.ax_log.specs.Answers.{IsKeptFor};
 
+use crate::answers::write_none;
+use ax_case_lines::{CaseFault, case_named, first_word, name_of, u32_of, u64_of};
 use ax_log::{CellPut, CellPuts, Log, LogFault};
-use ax_values::{Cell, Duplicate, Name, NoMemory, Payload, Record};
+use ax_values::{Cell, Duplicate, Name, NoMemory, Payload, Record, write_number, write_u32};
 use std::alloc::Global;
-use std::process::Abort;
 use std::slice;
-use std::test::Fail;
 
-fn name(rt: &impl Abort, alloc: Global, text: &[u8]) -> Result<Name, NoMemory> {
-    Ok(Name::read(alloc, text)?.expect(rt, "a name"))
+/// What is done with the log, or asked of it.
+#[derive(Clone, Copy)]
+pub(crate) enum LogCase {
+    Start,
+    Reserve,
+    Append,
+    End,
+    Void,
+    Stream,
+    Scan,
+}
+
+impl LogCase {
+    pub(crate) fn named(word: &[u8]) -> Option<LogCase> {
+        case_named!(word;
+            b"log" => LogCase::Start,
+            b"reserve" => LogCase::Reserve,
+            b"append" => LogCase::Append,
+            b"end" => LogCase::End,
+            b"void" => LogCase::Void,
+            b"stream" => LogCase::Stream,
+            b"scan" => LogCase::Scan
+        )
+    }
+}
+
+pub(crate) fn perform(
+    alloc: Global,
+    log: &mut Log,
+    case: LogCase,
+    rest: &[u8],
+    out: &mut Vec<u8>,
+) -> Result<(), CaseFault> {
+    match case {
+        LogCase::Start => {
+            *log = Log::new(alloc);
+            Ok(())
+        }
+        LogCase::Reserve => reserve(alloc, log, rest, out),
+        LogCase::Append => append(alloc, log, rest, out),
+        LogCase::End => append_end(alloc, log, rest, out),
+        LogCase::Void => void(log, rest, out),
+        LogCase::Stream => write_stream(alloc, log, rest, out),
+        LogCase::Scan => write_cell(log.scan(u32_of(rest)?), out),
+    }
 }
 
 /// One event of the aggregate.
@@ -31,8 +74,8 @@ fn one_event(alloc: Global, aggregate: &Name, seq: u32) -> Result<Vec<Record>, N
 }
 
 /// The first number of what the cell is kept for.
-fn number_at(rt: &impl Abort, log: &Log, index: u32, aggregate: &Name) -> u32
-    ensures { IsKeptFor aggregate.now result (slice_get log.now.cells index) }
+fn number_at(log: &Log, index: u32, aggregate: &Name) -> Result<u32, CaseFault>
+    ensures { IfOk result (λ number. IsKeptFor aggregate.now number (slice_get log.now.cells index)) }
 {
     match log.scan(index) {
         Some(
@@ -42,42 +85,95 @@ fn number_at(rt: &impl Abort, log: &Log, index: u32, aggregate: &Name) -> u32
                 ..
             },
         ) => {
-            assert!(rt; owner.same(aggregate));
-            *first_seq
+            if owner.same(aggregate) {
+                Ok(*first_seq)
+            } else {
+                Err(CaseFault::Line)
+            }
         }
-        Some(Cell::Void) => 0,
-        _ => panic!(rt; "no such cell"),
+        Some(Cell::Void) => Ok(0),
+        _ => Err(CaseFault::Line),
     }
 }
 
-/// What an append of one event answers from a cell on that is void or reserved for it.
+/// Reserves cells: `AGGREGATE ACTOR COUNT`, at the time 0.
+fn reserve(alloc: Global, log: &mut Log, text: &[u8], out: &mut Vec<u8>) -> Result<(), CaseFault> {
+    let (aggregate, rest) = first_word(text);
+    let (actor, count) = first_word(rest);
+    let count = u32_of(count)?;
+    let aggregate = name_of(alloc, aggregate)?;
+    let actor = name_of(alloc, actor)?;
+    let answered = log.reserve(alloc, &aggregate, &actor, count, 0);
+    make_or_write(log, answered, out)
+}
+
+/// Puts one event where a cell is void or reserved for it: `AGGREGATE INDEX`.
+fn append(alloc: Global, log: &mut Log, text: &[u8], out: &mut Vec<u8>) -> Result<(), CaseFault> {
+    let (aggregate, first) = first_word(text);
+    let first = u32_of(first)?;
+    let aggregate = name_of(alloc, aggregate)?;
+    let seq = number_at(log, first, &aggregate)?;
+    let answered = append_one(alloc, log, first, &aggregate, seq);
+    make_or_write(log, answered, out)
+}
+
 fn append_one(
-    rt: &impl Abort,
     alloc: Global,
     log: &Log,
     first: u32,
     aggregate: &Name,
+    seq: u32,
 ) -> Result<CellPuts, LogFault>
+    requires { IsKeptFor aggregate.now seq (slice_get log.now.cells first) }
     ensures { IfOk result (CanPutAll log.now.cells) }
 {
-    let seq = number_at(rt, log, first, aggregate);
     let records = one_event(alloc, aggregate, seq)?;
     log.append(alloc, first, records)
 }
 
-/// Puts one event at the end.
+/// Puts one event of the aggregate at the end.
 fn append_end(
-    rt: &impl Abort,
     alloc: Global,
     log: &mut Log,
-    aggregate: &[u8],
-) -> Result<(), LogFault> {
-    let aggregate = name(rt, alloc, aggregate)?;
+    word: &[u8],
+    out: &mut Vec<u8>,
+) -> Result<(), CaseFault> {
+    let aggregate = name_of(alloc, word)?;
+    let answered = end_one(alloc, log, &aggregate);
+    make_or_write(log, answered, out)
+}
+
+fn end_one(alloc: Global, log: &Log, aggregate: &Name) -> Result<CellPuts, LogFault>
+    ensures { IfOk result (CanPutAll log.now.cells) }
+{
     let first = log.cells().len() as u32;
-    let records = one_event(alloc, &aggregate, log.length_of(&aggregate))?;
-    let puts = log.append(alloc, first, records)?;
-    make(log, puts)?;
-    Ok(())
+    let records = one_event(alloc, aggregate, log.length_of(aggregate))?;
+    log.append(alloc, first, records)
+}
+
+/// Makes a reserved cell void: `INDEX MOMENT`.
+fn void(log: &mut Log, text: &[u8], out: &mut Vec<u8>) -> Result<(), CaseFault> {
+    let (index, moment) = first_word(text);
+    let index = u32_of(index)?;
+    let moment = u64_of(moment)?;
+    match log.void(index, moment) {
+        Ok(change) => Ok(make_one(log, change)?),
+        Err(fault) => write_fault(&fault, out),
+    }
+}
+
+/// Makes the puts, or says why there are none.
+fn make_or_write(
+    log: &mut Log,
+    answered: Result<CellPuts, LogFault>,
+    out: &mut Vec<u8>,
+) -> Result<(), CaseFault>
+    requires { IfOk answered (CanPutAll log.old.cells) }
+{
+    match answered {
+        Ok(puts) => Ok(make(log, puts)?),
+        Err(fault) => write_fault(&fault, out),
+    }
 }
 
 /// Makes the puts.
@@ -100,151 +196,48 @@ fn make_one(log: &mut Log, change: CellPut) -> Result<(), NoMemory>
     Ok(())
 }
 
-/// What a reservation of so many cells answers.
-fn reserve(
-    rt: &impl Abort,
-    alloc: Global,
-    log: &Log,
-    aggregate: &[u8],
-    actor: &[u8],
-    count: u32,
-) -> Result<CellPuts, LogFault>
-    ensures { IfOk result (CanPutAll log.now.cells) }
-{
-    let aggregate = name(rt, alloc, aggregate)?;
-    let actor = name(rt, alloc, actor)?;
-    log.reserve(alloc, &aggregate, &actor, count, 0)
-}
-
-fn reserve_one(
-    rt: &impl Abort,
-    alloc: Global,
-    log: &mut Log,
-    aggregate: &[u8],
-    actor: &[u8],
-) -> Result<(), LogFault> {
-    let puts = reserve(rt, alloc, log, aggregate, actor, 1)?;
-    make(log, puts)?;
-    Ok(())
-}
-
-fn append_kept(
-    rt: &impl Abort,
-    alloc: Global,
-    log: &mut Log,
-    first: u32,
-    aggregate: &[u8],
-) -> Result<(), LogFault> {
-    let aggregate = name(rt, alloc, aggregate)?;
-    let puts = append_one(rt, alloc, log, first, &aggregate)?;
-    make(log, puts)?;
-    Ok(())
-}
-
-/// What refuses an append of one event of `card-1`.
-fn append_fault(
-    rt: &impl Abort,
-    alloc: Global,
-    log: &Log,
-    first: u32,
-) -> Result<Option<LogFault>, NoMemory> {
-    let aggregate = name(rt, alloc, b"card-1")?;
-    match append_one(rt, alloc, log, first, &aggregate) {
-        Ok(_) => Ok(None),
-        Err(fault) => Ok(Some(fault)),
+/// Why the log makes no change.
+fn write_fault(fault: &LogFault, out: &mut Vec<u8>) -> Result<(), CaseFault> {
+    match fault {
+        LogFault::Conflict { expected, found } => {
+            out.extend_from_slice(b"conflict ")?;
+            write_u32(*expected, out)?;
+            out.push(b' ')?;
+            write_u32(*found, out)?;
+        }
+        LogFault::Voided { index } => {
+            out.extend_from_slice(b"voided ")?;
+            write_u32(*index, out)?;
+        }
+        LogFault::NotReserved => out.extend_from_slice(b"not reserved")?,
+        LogFault::Young { since } => {
+            out.extend_from_slice(b"young ")?;
+            write_number(*since, out)?;
+        }
+        LogFault::LogFull => out.extend_from_slice(b"full")?,
+        LogFault::Memory => return Err(CaseFault::Memory),
     }
-}
-
-/// Whether the aggregate's events are those at the indexes.
-fn stands_at(
-    rt: &impl Abort,
-    alloc: Global,
-    log: &Log,
-    aggregate: &[u8],
-    indexes: &[u32],
-) -> Result<bool, NoMemory> {
-    let aggregate = name(rt, alloc, aggregate)?;
-    let stream = log.stream(alloc, &aggregate)?;
-    Ok(log.length_of(&aggregate) as usize == indexes.len() && stream.as_slice() == indexes)
-}
-
-/// A reserved cell of `card-1`, and behind it an event of `card-2`.
-fn one_reserved(rt: &impl Abort, alloc: Global) -> Result<Log, LogFault> {
-    let mut log = Log::new(alloc);
-    reserve_one(rt, alloc, &mut log, b"card-1", b"c1")?;
-    reserve_one(rt, alloc, &mut log, b"card-2", b"c1")?;
-    append_kept(rt, alloc, &mut log, 1, b"card-2")?;
-    Ok(log)
-}
-
-#[test]
-fn reserved_cell_is_a_gap(rt: HostRuntime) -> Result<(), Fail> {
-    let alloc = rt.alloc();
-    let mut log = one_reserved(&rt, alloc)?;
-    assert!(rt; stands_at(&rt, alloc, &log, b"card-1", &[])?);
-    assert!(rt; stands_at(&rt, alloc, &log, b"card-2", &[1])?);
-    append_kept(&rt, alloc, &mut log, 0, b"card-1")?;
-    append_end(&rt, alloc, &mut log, b"card-1")?;
-    assert!(rt; stands_at(&rt, alloc, &log, b"card-1", &[0, 2])?);
-    assert!(rt; log.scan(3).is_none());
     Ok(())
 }
 
-/// One event of `card-1`, and behind it a reserved cell of each of two actors.
-fn two_reserved(rt: &impl Abort, alloc: Global) -> Result<Log, LogFault> {
-    let mut log = Log::new(alloc);
-    reserve_one(rt, alloc, &mut log, b"card-1", b"c1")?;
-    append_kept(rt, alloc, &mut log, 0, b"card-1")?;
-    reserve_one(rt, alloc, &mut log, b"card-1", b"c1")?;
-    reserve_one(rt, alloc, &mut log, b"card-1", b"c2")?;
-    Ok(log)
-}
-
-#[test]
-fn second_append_conflicts(rt: HostRuntime) -> Result<(), Fail> {
-    let alloc = rt.alloc();
-    let mut log = two_reserved(&rt, alloc)?;
-    append_kept(&rt, alloc, &mut log, 1, b"card-1")?;
-    let refused = append_fault(&rt, alloc, &log, 2)?;
-    assert!(rt;
-        matches!(
-            &refused,
-            Some(LogFault::Conflict {
-                expected: 1,
-                found: 2
-            })
-        )
-    );
-    assert!(rt; stands_at(&rt, alloc, &log, b"card-1", &[0, 1])?);
+/// How many events the aggregate has, and their indexes.
+fn write_stream(alloc: Global, log: &Log, word: &[u8], out: &mut Vec<u8>) -> Result<(), CaseFault> {
+    let aggregate = name_of(alloc, word)?;
+    write_u32(log.length_of(&aggregate), out)?;
+    out.push(b':')?;
+    for index in log.stream(alloc, &aggregate)? {
+        out.push(b' ')?;
+        write_u32(index, out)?;
+    }
     Ok(())
 }
 
-#[test]
-fn cells_past_the_limit(rt: HostRuntime) -> Result<(), Fail> {
-    let alloc = rt.alloc();
-    let full = reserve(&rt, alloc, &Log::new(alloc), b"card-1", b"c1", 200_001);
-    assert!(rt; matches!(&full, Err(LogFault::LogFull)));
-    Ok(())
-}
-
-/// One cell that is reserved at the time 0, and made void where it may be at `moment`.
-fn voided_at(rt: &impl Abort, alloc: Global, moment: u64) -> Result<Log, LogFault> {
-    let mut log = Log::new(alloc);
-    reserve_one(rt, alloc, &mut log, b"card-1", b"c1")?;
-    let put = log.void(0, moment)?;
-    log.put(put);
-    Ok(log)
-}
-
-#[test]
-fn void_after_sixty_seconds(rt: HostRuntime) -> Result<(), Fail> {
-    let alloc = rt.alloc();
-    let young = voided_at(&rt, alloc, 60_000);
-    assert!(rt; matches!(&young, Err(LogFault::Young { since: 0 })));
-    let log = voided_at(&rt, alloc, 60_001)?;
-    let refused = append_fault(&rt, alloc, &log, 0)?;
-    assert!(rt; matches!(&refused, Some(LogFault::Voided { index: 0 })));
-    let again = log.void(0, 60_001);
-    assert!(rt; matches!(&again, Err(LogFault::NotReserved)));
+fn write_cell(cell: Option<&Cell>, out: &mut Vec<u8>) -> Result<(), CaseFault> {
+    match cell {
+        None => return write_none(out),
+        Some(Cell::Void) => out.extend_from_slice(b"void")?,
+        Some(Cell::Reserved { .. }) => out.extend_from_slice(b"reserved")?,
+        Some(Cell::Event(_)) => out.extend_from_slice(b"event")?,
+    }
     Ok(())
 }

@@ -1,28 +1,67 @@
-use ax_segments::{hash_of, root};
-use std::test::Fail;
+use crate::answers::write_none;
+use ax_case_lines::{CaseFault, case_named, first_word};
+use ax_journal::{read_segment, write_segment};
+use ax_segments::{Segment, hash_of};
+use ax_values::write_u32;
 
-// The hashes are those of Java's String.hashCode, as numbers of 32 bits without sign.
-#[test]
-fn hashes_of_four_cards(rt: HostRuntime) -> Result<(), Fail> {
-    assert_eq!(rt; hash_of(b"card-1"), 2927361204);
-    assert_eq!(rt; hash_of(b""), 0);
-    let cards = [b"card-1", b"card-2", b"card-3", b"card-4"];
-    for (id, card) in cards.iter().enumerate() {
-        assert_eq!(rt; (hash_of(*card) % 4) as usize, id);
-    }
-    Ok(())
+/// What is asked of hashes and segments.
+#[derive(Clone, Copy)]
+pub(crate) enum SegmentCase {
+    Hash,
+    Quarter,
+    Segment,
+    Split,
+    Merge,
+    Partner,
 }
 
-#[test]
-fn halves_and_partners(rt: HostRuntime) -> Result<(), Fail> {
-    let (lower, upper) = root().split().ok().ok_or("two halves")?;
-    assert_eq!(rt; (lower.id, lower.mask), (0, 1));
-    assert_eq!(rt; (upper.id, upper.mask), (1, 1));
-    let (low, high) = upper.split().ok().ok_or("two halves")?;
-    assert_eq!(rt; (low.id, high.id, high.mask), (1, 3, 3));
-    let whole = low.merged_with(high).ok_or("a whole")?;
-    assert_eq!(rt; (whole.id, whole.mask), (1, 1));
-    assert!(rt; low.merged_with(lower).is_none());
-    assert!(rt; root().partner().is_none());
-    Ok(())
+impl SegmentCase {
+    pub(crate) fn named(word: &[u8]) -> Option<SegmentCase> {
+        case_named!(word;
+            b"hash" => SegmentCase::Hash,
+            b"quarter" => SegmentCase::Quarter,
+            b"segment" => SegmentCase::Segment,
+            b"halves" => SegmentCase::Split,
+            b"whole" => SegmentCase::Merge,
+            b"partner" => SegmentCase::Partner
+        )
+    }
+}
+
+/// The segment that a text is.
+pub(crate) fn segment_of(text: &[u8]) -> Result<Segment, CaseFault> {
+    read_segment(text).ok_or(CaseFault::Line)
+}
+
+pub(crate) fn perform(case: SegmentCase, rest: &[u8], out: &mut Vec<u8>) -> Result<(), CaseFault> {
+    match case {
+        SegmentCase::Hash => Ok(write_u32(hash_of(rest), out)?),
+        SegmentCase::Quarter => Ok(write_u32(hash_of(rest) % 4, out)?),
+        SegmentCase::Segment => write_or_none(read_segment(rest), out),
+        SegmentCase::Split => write_halves(segment_of(rest)?, out),
+        SegmentCase::Merge => {
+            let (lower, upper) = first_word(rest);
+            write_or_none(segment_of(lower)?.merged_with(segment_of(upper)?), out)
+        }
+        SegmentCase::Partner => write_or_none(segment_of(rest)?.partner(), out),
+    }
+}
+
+fn write_or_none(segment: Option<Segment>, out: &mut Vec<u8>) -> Result<(), CaseFault> {
+    match segment {
+        Some(segment) => Ok(write_segment(segment, out)?),
+        None => write_none(out),
+    }
+}
+
+fn write_halves(segment: Segment, out: &mut Vec<u8>) -> Result<(), CaseFault> {
+    match segment.split() {
+        Ok((lower, upper)) => {
+            write_segment(lower, out)?;
+            out.push(b' ')?;
+            write_segment(upper, out)?;
+            Ok(())
+        }
+        Err(_) => write_none(out),
+    }
 }

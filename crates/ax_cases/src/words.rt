@@ -1,248 +1,244 @@
+use crate::answers::{write_none, write_whether};
+use ax_case_lines::{CaseFault, case_named, first_word, name_of, payload_of, u32_of};
 use ax_values::{
-    Cell, Duplicate, ItemName, Name, Names, NoMemory, Payload, Record, Records, Same, Seen, Value,
-    event_id, line_words, read_int, read_number, read_small, write_int, write_number, write_small,
+    Cell, Duplicate, ItemName, Mark, Name, Names, NoMemory, Payload, Record, Records, Same, Seen,
+    Text, Value, event_id, line_words, read_int, read_number, read_u32, write_int, write_number,
+    write_u32,
 };
 use std::alloc::Global;
-use std::test::Fail;
-use uuid::Uuid;
 
-const SIXTY_FOUR: &str = "0123456789abcdef0123456789ABCDEF0123456789abcdef0123456789ABCDEF";
-
-const SIXTY_FIVE: &str = "00123456789abcdef0123456789ABCDEF0123456789abcdef0123456789ABCDEF";
-
-const QUOTED_64: &str = "\"0123456789abcdef0123456789ABCDEF0123456789abcdef0123456789ABCDEF\"";
-
-const QUOTED_65: &str = "\"00123456789abcdef0123456789ABCDEF0123456789abcdef0123456789ABCDEF\"";
-
-fn name_again(alloc: Global, text: &str) -> Result<Option<Vec<u8>>, NoMemory> {
-    let Some(name) = Name::read(alloc, text.as_bytes())? else {
-        return Ok(None);
-    };
-    let mut out = Vec::new(alloc);
-    name.copy(alloc)?.write(&mut out)?;
-    Ok(Some(out))
+/// What a word is read as.
+#[derive(Clone, Copy)]
+pub(crate) enum WordCase {
+    Number,
+    Int,
+    U32,
+    Name,
+    Content,
+    Value,
+    Payload,
+    Item,
+    Mark,
+    Seen,
+    Event,
+    Cell,
+    Get,
+    Records,
+    Names,
 }
 
-fn value_again(alloc: Global, text: &str) -> Result<Option<Vec<u8>>, NoMemory> {
-    let Some(value) = Value::read(alloc, text.as_bytes())? else {
-        return Ok(None);
-    };
-    let mut out = Vec::new(alloc);
-    value.copy(alloc)?.write(alloc, &mut out)?;
-    Ok(Some(out))
+impl WordCase {
+    pub(crate) fn named(word: &[u8]) -> Option<WordCase> {
+        case_named!(word;
+            b"number" => WordCase::Number,
+            b"int" => WordCase::Int,
+            b"u32" => WordCase::U32,
+            b"name" => WordCase::Name,
+            b"content" => WordCase::Content,
+            b"value" => WordCase::Value,
+            b"payload" => WordCase::Payload,
+            b"item" => WordCase::Item,
+            b"mark" => WordCase::Mark,
+            b"seen" => WordCase::Seen,
+            b"id" => WordCase::Event,
+            b"cell" => WordCase::Cell,
+            b"get" => WordCase::Get,
+            b"records" => WordCase::Records,
+            b"names" => WordCase::Names
+        )
+    }
 }
 
-fn payload_again(alloc: Global, text: &str) -> Result<Option<Vec<u8>>, NoMemory> {
-    let Some(payload) = Payload::read(alloc, text.as_bytes())? else {
-        return Ok(None);
-    };
-    let mut out = Vec::new(alloc);
-    payload.copy(alloc)?.write(alloc, &mut out)?;
-    Ok(Some(out))
+pub(crate) fn perform(
+    alloc: Global,
+    case: WordCase,
+    rest: &[u8],
+    out: &mut Vec<u8>,
+) -> Result<(), CaseFault> {
+    match case {
+        WordCase::Number => write_read_number(rest, out),
+        WordCase::Int => write_read_int(rest, out),
+        WordCase::U32 => write_read_u32(rest, out),
+        WordCase::Name => write_read_name(alloc, rest, out),
+        WordCase::Content => write_content(alloc, rest, out),
+        WordCase::Value => write_read_value(alloc, rest, out),
+        WordCase::Payload => write_read_payload(alloc, rest, out),
+        WordCase::Item => write_read_item(alloc, rest, out),
+        WordCase::Mark => write_read_mark(rest, out),
+        WordCase::Seen => write_read_seen(alloc, rest, out),
+        WordCase::Event => write_id(alloc, rest, out),
+        WordCase::Cell => write_copied(alloc, rest, out),
+        WordCase::Get => write_got(alloc, rest, out),
+        WordCase::Records => write_records(alloc, rest, out),
+        WordCase::Names => write_names(alloc, rest, out),
+    }
 }
 
-fn item_again(alloc: Global, text: &str) -> Result<Option<Vec<u8>>, NoMemory> {
-    let Some(item) = ItemName::read(alloc, text.as_bytes())? else {
-        return Ok(None);
-    };
-    let mut out = Vec::new(alloc);
-    item.copy(alloc)?.write(alloc, &mut out)?;
-    Ok(Some(out))
+fn write_read_number(text: &[u8], out: &mut Vec<u8>) -> Result<(), CaseFault> {
+    match read_number(text) {
+        Some(number) => Ok(write_number(number, out)?),
+        None => write_none(out),
+    }
 }
 
-fn seen_again(alloc: Global, text: &str) -> Result<Option<Vec<u8>>, NoMemory> {
-    let words = line_words(alloc, text.as_bytes())?;
-    let Some(seen) = Seen::read(alloc, &words)? else {
-        return Ok(None);
-    };
-    let mut out = Vec::new(alloc);
-    seen.copy(alloc)?.write(alloc, &mut out)?;
-    Ok(Some(out))
+fn write_read_int(text: &[u8], out: &mut Vec<u8>) -> Result<(), CaseFault> {
+    match read_int(text) {
+        Some(number) => Ok(write_int(number, out)?),
+        None => write_none(out),
+    }
 }
 
-#[test]
-fn numbers_at_their_ends(rt: HostRuntime) -> Result<(), Fail> {
-    let alloc = rt.alloc();
-    assert_eq!(rt;
-        read_number("18446744073709551615".as_bytes()),
-        Some(u64::MAX)
-    );
-    assert_eq!(rt; read_number("18446744073709551616".as_bytes()), None);
-    assert_eq!(rt; read_number("01".as_bytes()), None);
-    assert_eq!(rt; read_int("-9223372036854775808".as_bytes()), Some(i64::MIN));
-    assert_eq!(rt; read_int("9223372036854775807".as_bytes()), Some(i64::MAX));
-    assert_eq!(rt; read_int("-9223372036854775809".as_bytes()), None);
-    assert_eq!(rt; read_int("9223372036854775808".as_bytes()), None);
-    assert_eq!(rt; read_int("-0".as_bytes()), None);
-    assert_eq!(rt; read_small("4294967295".as_bytes()), Some(u32::MAX));
-    assert_eq!(rt; read_small("4294967296".as_bytes()), None);
-    let mut out = Vec::new(alloc);
-    write_number(alloc, u64::MAX, &mut out)?;
-    out.push(b' ')?;
-    write_int(alloc, i64::MIN, &mut out)?;
-    out.push(b' ')?;
-    write_small(alloc, u32::MAX, &mut out)?;
-    assert_eq!(rt;
-        out.as_slice(),
-        "18446744073709551615 -9223372036854775808 4294967295".as_bytes()
-    );
+fn write_read_u32(text: &[u8], out: &mut Vec<u8>) -> Result<(), CaseFault> {
+    match read_u32(text) {
+        Some(number) => Ok(write_u32(number, out)?),
+        None => write_none(out),
+    }
+}
+
+/// A name is made of its own bytes once more, before its copy is written.
+fn write_read_name(alloc: Global, text: &[u8], out: &mut Vec<u8>) -> Result<(), CaseFault> {
+    match Name::read(alloc, text)? {
+        Some(name) => write_name(alloc, &name, out),
+        None => write_none(out),
+    }
+}
+
+fn write_name(alloc: Global, name: &Name, out: &mut Vec<u8>) -> Result<(), CaseFault> {
+    let again = Name::of(name.parts().to_vec(alloc)?);
+    Ok(again.copy(alloc)?.write(out)?)
+}
+
+/// A text is made of its content, and of its own bytes once more, before its copy is written.
+fn write_content(alloc: Global, content: &[u8], out: &mut Vec<u8>) -> Result<(), CaseFault> {
+    match Text::from_content(alloc, content)? {
+        Some(text) => write_text(alloc, &text, out),
+        None => write_none(out),
+    }
+}
+
+fn write_text(alloc: Global, text: &Text, out: &mut Vec<u8>) -> Result<(), CaseFault> {
+    let again = Text::of(text.parts().to_vec(alloc)?);
+    Ok(again.copy(alloc)?.write(out)?)
+}
+
+fn write_read_value(alloc: Global, text: &[u8], out: &mut Vec<u8>) -> Result<(), CaseFault> {
+    match Value::read(alloc, text)? {
+        Some(value) => Ok(value.copy(alloc)?.write(out)?),
+        None => write_none(out),
+    }
+}
+
+fn write_read_payload(alloc: Global, text: &[u8], out: &mut Vec<u8>) -> Result<(), CaseFault> {
+    match Payload::read(alloc, text)? {
+        Some(payload) => Ok(payload.copy(alloc)?.write(out)?),
+        None => write_none(out),
+    }
+}
+
+fn write_read_item(alloc: Global, text: &[u8], out: &mut Vec<u8>) -> Result<(), CaseFault> {
+    match ItemName::read(alloc, text)? {
+        Some(item) => Ok(item.copy(alloc)?.write(out)?),
+        None => write_none(out),
+    }
+}
+
+fn write_read_mark(text: &[u8], out: &mut Vec<u8>) -> Result<(), CaseFault> {
+    match Mark::read(text) {
+        Some(mark) => Ok(mark.write(out)?),
+        None => write_none(out),
+    }
+}
+
+fn write_read_seen(alloc: Global, text: &[u8], out: &mut Vec<u8>) -> Result<(), CaseFault> {
+    let words = line_words(alloc, text)?;
+    match Seen::read(alloc, &words)? {
+        Some(seen) => Ok(seen.copy(alloc)?.write(out)?),
+        None => write_none(out),
+    }
+}
+
+/// The identifier of the event `AGGREGATE SEQ`.
+fn write_id(alloc: Global, text: &[u8], out: &mut Vec<u8>) -> Result<(), CaseFault> {
+    let (aggregate, seq) = first_word(text);
+    let aggregate = name_of(alloc, aggregate)?;
+    let id = event_id(alloc, &aggregate, u32_of(seq)?)?;
+    let text = format!(in alloc; "{id}")?;
+    out.extend_from_slice(text.as_bytes())?;
     Ok(())
 }
 
-#[test]
-fn names_and_values(rt: HostRuntime) -> Result<(), Fail> {
-    let alloc = rt.alloc();
-    for text in [
-        "a",
-        "0-_",
-        "aecad86b-efe9-59c3-b3da-f80396b452c7",
-        SIXTY_FOUR,
-    ] {
-        assert_eq!(rt;
-            name_again(alloc, text)?.ok_or(text)?.as_slice(),
-            text.as_bytes()
-        );
-    }
-    for text in ["", "-a", "_a", "a.b", "a b", SIXTY_FIVE] {
-        assert!(rt; name_again(alloc, text)?.is_none(), "{text}");
-    }
-    for text in [
-        "0",
-        "-1",
-        "9223372036854775807",
-        "\"\"",
-        "\"a b=,\"",
-        QUOTED_64,
-    ] {
-        assert_eq!(rt;
-            value_again(alloc, text)?.ok_or(text)?.as_slice(),
-            text.as_bytes()
-        );
-    }
-    for text in [
-        "", "-0", "+1", "01", "\"", "\"a\"b\"", "\"a\\b\"", "\"a", QUOTED_65,
-    ] {
-        assert!(rt; value_again(alloc, text)?.is_none(), "{text}");
-    }
-    Ok(())
-}
-
-#[test]
-fn payloads_on_and_off_the_grammar(rt: HostRuntime) -> Result<(), Fail> {
-    let alloc = rt.alloc();
-    for text in ["", "amount=100", "a=1 b=-2", "to=\"a b\" transfer=\"t1\""] {
-        assert_eq!(rt;
-            payload_again(alloc, text)?.ok_or(text)?.as_slice(),
-            text.as_bytes()
-        );
-    }
-    for text in [
-        " ", "a=1 ", "a=1  b=2", "b=1 a=2", "a=1 a=1", "a=01", "a", "=1", "a=\"x",
-    ] {
-        assert!(rt; payload_again(alloc, text)?.is_none(), "{text}");
-    }
-    Ok(())
-}
-
-#[test]
-fn items_on_and_off_the_grammar(rt: HostRuntime) -> Result<(), Fail> {
-    let alloc = rt.alloc();
-    for text in ["card-1.0.0", "card-1.4294967295.7"] {
-        assert_eq!(rt;
-            item_again(alloc, text)?.ok_or(text)?.as_slice(),
-            text.as_bytes()
-        );
-    }
-    for text in [
-        "card-1.0.8",
-        "card-1.4294967296.0",
-        "card-1.0",
-        "card-1.0.0.0",
-        ".0.0",
-    ] {
-        assert!(rt; item_again(alloc, text)?.is_none(), "{text}");
-    }
-    Ok(())
-}
-
-#[test]
-fn what_was_seen_on_and_off_the_grammar(rt: HostRuntime) -> Result<(), Fail> {
-    let alloc = rt.alloc();
-    for text in [
-        "1 parked []",
-        "2 clear [0.1,3.0]",
-        "4294967295 clear [0.0,0.7,10.0]",
-    ] {
-        assert_eq!(rt;
-            seen_again(alloc, text)?.ok_or(text)?.as_slice(),
-            text.as_bytes()
-        );
-    }
-    for text in [
-        "2 clear",
-        "2 open []",
-        "2 clear [3.0,0.1]",
-        "2 clear [0.8]",
-        "2 clear [,]",
-    ] {
-        assert!(rt; seen_again(alloc, text)?.is_none(), "{text}");
-    }
-    Ok(())
-}
-
-// as Python's uuid.uuid5 gives them
-#[test]
-fn events_have_their_identifiers(rt: HostRuntime) -> Result<(), Fail> {
-    let alloc = rt.alloc();
-    let card = Name::read(alloc, "card-1".as_bytes())?.ok_or("card-1")?;
-    let a = Name::read(alloc, "a".as_bytes())?.ok_or("a")?;
-    assert!(rt;
-        event_id(alloc, &card, 0)? == Uuid::parse_str("aecad86b-efe9-59c3-b3da-f80396b452c7")?
-    );
-    assert!(rt;
-        event_id(alloc, &card, 1)? == Uuid::parse_str("24dd329c-772e-5eec-b74b-4b2764a33186")?
-    );
-    assert!(rt;
-        event_id(alloc, &a, u32::MAX)? == Uuid::parse_str("fe7f4c34-edb3-51aa-b0e3-2b4b66f7fd39")?
-    );
-    Ok(())
-}
-
-fn record_of(alloc: Global, name: &str, payload: &str) -> Result<Option<Record>, NoMemory> {
-    let Some(aggregate) = Name::read(alloc, name.as_bytes())? else {
-        return Ok(None);
-    };
-    let Some(payload) = Payload::read(alloc, payload.as_bytes())? else {
-        return Ok(None);
-    };
-    let kind = aggregate.copy(alloc)?;
-    Ok(Some(Record {
-        aggregate,
+/// The record `AGGREGATE PAYLOAD` of the kind `issued`.
+fn record_from(alloc: Global, text: &[u8]) -> Result<Record, CaseFault> {
+    let (aggregate, payload) = first_word(text);
+    let aggregate = name_of(alloc, aggregate)?;
+    let kind = name_of(alloc, b"issued")?;
+    let payload = payload_of(alloc, payload)?;
+    Ok(Record {
         seq: 0,
-        kind,
         revision: 1,
+        aggregate,
+        kind,
         payload,
-    }))
+    })
 }
 
-#[test]
-fn copies_are_the_same(rt: HostRuntime) -> Result<(), Fail> {
-    let alloc = rt.alloc();
-    let record = record_of(alloc, "card-1", "amount=100 to=\"b\"")?.ok_or("record")?;
-    let to = Name::read(alloc, "to".as_bytes())?.ok_or("to")?;
-    let Cell::Event(copy) = Cell::Event(record.copy(alloc)?).copy(alloc)? else {
-        return Err(Fail::from("no event"));
-    };
-    assert!(rt; copy.payload.same(&record.payload));
-    assert!(rt; copy.payload.get(&to).is_some());
-    assert!(rt; copy.payload.get(&record.kind).is_none());
+/// Whether the copy of an event's cell, made of a copy of its record, has the same payload.
+fn write_copied(alloc: Global, text: &[u8], out: &mut Vec<u8>) -> Result<(), CaseFault> {
+    let record = record_from(alloc, text)?;
+    let same = is_copied(alloc, &record);
+    drop(record);
+    write_whether(same?, out)
+}
+
+fn is_copied(alloc: Global, record: &Record) -> Result<bool, NoMemory> {
+    let cell = Cell::Event(record.copy(alloc)?);
+    let copied = cell.copy(alloc);
+    drop(cell);
+    let copied = copied?;
+    let same = has_payload(&copied, &record.payload);
+    drop(copied);
+    Ok(same)
+}
+
+fn has_payload(cell: &Cell, payload: &Payload) -> bool {
+    match cell {
+        Cell::Event(record) => record.payload.same(payload),
+        _ => false,
+    }
+}
+
+/// The value that the payload has under a name: `NAME PAYLOAD`.
+fn write_got(alloc: Global, text: &[u8], out: &mut Vec<u8>) -> Result<(), CaseFault> {
+    let (word, payload) = first_word(text);
+    let name = name_of(alloc, word)?;
+    let payload = payload_of(alloc, payload)?;
+    match payload.get(&name) {
+        Some(value) => Ok(value.write(out)?),
+        None => write_none(out),
+    }
+}
+
+/// How many records the copy of a list of one has.
+fn write_records(alloc: Global, text: &[u8], out: &mut Vec<u8>) -> Result<(), CaseFault> {
     let mut records = Records::new(alloc);
-    records.push(copy)?;
-    assert_eq!(rt; records.copy(alloc)?.parts().len(), 1);
+    records.push(record_from(alloc, text)?)?;
+    let count = records.copy(alloc)?.parts().len();
+    Ok(write_number(count as u64, out)?)
+}
+
+/// How many names there are, and whether a copy of their list is the same.
+fn write_names(alloc: Global, text: &[u8], out: &mut Vec<u8>) -> Result<(), CaseFault> {
+    let names = names_from(alloc, text)?;
+    let copied = names.copy(alloc)?;
+    write_number(names.parts().len() as u64, out)?;
+    out.push(b' ')?;
+    write_whether(copied.same(&names), out)
+}
+
+fn names_from(alloc: Global, text: &[u8]) -> Result<Names, CaseFault> {
     let mut names = Names::new(alloc);
-    names.push(to)?;
-    assert!(rt; names.copy(alloc)?.same(&names));
-    names.push(record.kind.copy(alloc)?)?;
-    assert_eq!(rt; names.parts().len(), 2);
-    Ok(())
+    for word in line_words(alloc, text)? {
+        names.push(name_of(alloc, word)?)?;
+    }
+    Ok(names)
 }

@@ -1,193 +1,182 @@
-use crate::changes::{first_lost, first_read};
-use std::test::Fail;
+use ax_case_lines::{
+    CaseFault, case_named, first_word, item_of, name_of, payload_of, u32_of, write_either,
+};
+use ax_rules::{Applied, Row, Rules, Why};
+use ax_sheet::Sheet;
+use ax_values::{Duplicate, Item, NoMemory, Record, Same, write_int};
+use std::alloc::Global;
 
-/// The small sheet's aggregate, its projection, and what they do with an item.
-const AGGREGATE: &str = r#"{"fields":{"n":0},"on":{"made":{"sets":{"n":["+","n",1]}}}}"#;
+/// What is asked of a sheet's rules and upcasters.
+#[derive(Clone, Copy)]
+pub(crate) enum RuleCase {
+    Apply,
+    Same,
+    Why,
+    Upcast,
+}
 
-const PROJECTION: &str = r#"{"fields":{"k":5},"on":{"made":{"announce":true}}}"#;
+impl RuleCase {
+    pub(crate) fn named(word: &[u8]) -> Option<RuleCase> {
+        case_named!(word;
+            b"apply" => RuleCase::Apply,
+            b"same" => RuleCase::Same,
+            b"why" => RuleCase::Why,
+            b"upcast" => RuleCase::Upcast
+        )
+    }
+}
 
-const RULE: &str = r#"{"sets":{"n":["+","n",1]}}"#;
+pub(crate) fn perform(
+    alloc: Global,
+    sheet: &Sheet,
+    case: RuleCase,
+    rest: &[u8],
+    out: &mut Vec<u8>,
+) -> Result<(), CaseFault> {
+    match case {
+        RuleCase::Apply => {
+            let (word, text) = first_word(rest);
+            let item = item_from(alloc, text)?;
+            write_applied(alloc, rules_of(alloc, sheet, word)?, &item, out)
+        }
+        RuleCase::Same => {
+            let rules = rules_of(alloc, sheet, rest)?;
+            let same = is_same_copied(alloc, rules)?;
+            write_either(same, b"same", b"not the same", out)
+        }
+        RuleCase::Why => write_read_why(alloc, rest, out),
+        RuleCase::Upcast => {
+            let record = record_from(alloc, rest)?;
+            Ok(write_items(alloc, sheet, &record, out)?)
+        }
+    }
+}
 
-const EXPRESSION: &str = r#"["+","n",1]"#;
+/// The rules of the projection of this name.
+fn rules_of<'a>(alloc: Global, sheet: &'a Sheet, word: &[u8]) -> Result<&'a Rules, CaseFault> {
+    let name = name_of(alloc, word)?;
+    sheet.projection(&name).ok_or(CaseFault::Line)
+}
 
-#[test]
-fn aggregates_that_are_read(rt: HostRuntime) -> Result<(), Fail> {
-    let pieces = [
-        r#"{"fields":{"n":0},"on":{}}"#,
-        r#"{"fields":{"n":0},"on":{"a":{},"b":{},"made":{}}}"#,
-        r#"{"fields":{"a":0,"b":1,"c":2,"d":3,"e":4,"f":5,"g":6,"n":7},"on":{}}"#,
-    ];
-    assert_eq!(rt; first_lost(rt.alloc(), AGGREGATE, &pieces)?, None);
+/// The item of a kind and a payload. It is a copy, which is the same as what was copied.
+fn item_from(alloc: Global, text: &[u8]) -> Result<Item, CaseFault> {
+    let (kind, payload) = first_word(text);
+    let item = Item {
+        name: item_of(alloc, b"card-1.0.0")?,
+        kind: name_of(alloc, kind)?,
+        payload: payload_of(alloc, payload)?,
+    };
+    let copied = item.copy(alloc)?;
+    if copied.same(&item) {
+        Ok(copied)
+    } else {
+        Err(CaseFault::Line)
+    }
+}
+
+/// The row that the rules make of the first row and the item, or why they make none.
+fn write_applied(
+    alloc: Global,
+    rules: &Rules,
+    item: &Item,
+    out: &mut Vec<u8>,
+) -> Result<(), CaseFault> {
+    let row = rules.start(alloc)?;
+    match rules.apply(alloc, &row, item)? {
+        Applied::Row(row) => Ok(write_row(&row, out)?),
+        Applied::Fault(cause) => {
+            let why = Why::Failed(cause);
+            let written = write_why(alloc, &why, out);
+            drop(why);
+            written
+        }
+    }
+}
+
+fn write_row(row: &Row, out: &mut Vec<u8>) -> Result<(), NoMemory> {
+    out.extend_from_slice(b"row")?;
+    for number in row.parts() {
+        out.push(b' ')?;
+        write_int(*number, out)?;
+    }
     Ok(())
 }
 
-#[test]
-fn aggregates_that_are_none(rt: HostRuntime) -> Result<(), Fail> {
-    let pieces = [
-        r#"{"fields":{"n":0}}"#,
-        r#"{"on":{}}"#,
-        r#"{"fields":{"n":0},"on":{},"x":1}"#,
-        r#"{"fields":{"n":0},"on":[]}"#,
-        r#"{"fields":{"n":0},"on":null}"#,
-        r#"{"fields":{"n":0},"on":{"-":{}}}"#,
-        r#"{"fields":["n"],"on":{}}"#,
-        r#"{"fields":{"a":0,"b":1,"c":2,"d":3,"e":4,"f":5,"g":6,"h":7,"n":8},"on":{}}"#,
-        r#"[{"n":0},{}]"#,
-    ];
-    assert_eq!(rt; first_read(rt.alloc(), AGGREGATE, &pieces)?, None);
+fn is_same_copied(alloc: Global, rules: &Rules) -> Result<bool, NoMemory> {
+    let copied = rules.copy(alloc)?;
+    let same = copied.same(rules);
+    drop(copied);
+    Ok(same)
+}
+
+/// The why that a text is. It is given to `drop`, since a `drop` in place is proved anew in each function.
+fn write_read_why(alloc: Global, text: &[u8], out: &mut Vec<u8>) -> Result<(), CaseFault> {
+    match Why::read(alloc, text)? {
+        Some(why) => {
+            let written = why.write(out);
+            drop(why);
+            Ok(written?)
+        }
+        None => Ok(out.extend_from_slice(b"none")?),
+    }
+}
+
+/// The text of a why, written, read, copied and written again.
+fn write_why(alloc: Global, why: &Why, out: &mut Vec<u8>) -> Result<(), CaseFault> {
+    let mut text = Vec::new(alloc);
+    why.write(&mut text)?;
+    match Why::read(alloc, &text)? {
+        Some(again) => {
+            let written = write_copy(alloc, &again, out);
+            drop(again);
+            Ok(written?)
+        }
+        None => Err(CaseFault::Line),
+    }
+}
+
+fn write_copy(alloc: Global, why: &Why, out: &mut Vec<u8>) -> Result<(), NoMemory> {
+    let copied = why.copy(alloc)?;
+    let written = copied.write(out);
+    drop(copied);
+    written
+}
+
+/// The record `AGGREGATE SEQ KIND REVISION PAYLOAD`.
+fn record_from(alloc: Global, text: &[u8]) -> Result<Record, CaseFault> {
+    let (aggregate, rest) = first_word(text);
+    let (seq, rest) = first_word(rest);
+    let (kind, rest) = first_word(rest);
+    let (revision, payload) = first_word(rest);
+    Ok(Record {
+        seq: u32_of(seq)?,
+        revision: u32_of(revision)?,
+        aggregate: name_of(alloc, aggregate)?,
+        kind: name_of(alloc, kind)?,
+        payload: payload_of(alloc, payload)?,
+    })
+}
+
+/// The items of a record as `NAME KIND PAYLOAD;` each, through a copy of the sheet's chain.
+fn write_items(
+    alloc: Global,
+    sheet: &Sheet,
+    record: &Record,
+    out: &mut Vec<u8>,
+) -> Result<(), NoMemory> {
+    let chain = sheet.chain().copy(alloc)?;
+    for item in chain.upcast(alloc, record)?.parts() {
+        write_item(item, out)?;
+    }
     Ok(())
 }
 
-#[test]
-fn projections_that_are_read(rt: HostRuntime) -> Result<(), Fail> {
-    let pieces = [
-        r#"{"fields":{},"on":{}}"#,
-        r#"{"fields":{"k":5},"on":{"made":{"announce":true,"guards":[["<","k","$k"]],"sets":{"k":"$k"}}}}"#,
-        r#"{"fields":{"a":0,"b":1,"c":2,"d":3,"e":4,"f":5,"g":6,"h":7},"on":{}}"#,
-    ];
-    assert_eq!(rt; first_lost(rt.alloc(), PROJECTION, &pieces)?, None);
-    Ok(())
-}
-
-#[test]
-fn projections_that_are_none(rt: HostRuntime) -> Result<(), Fail> {
-    let pieces = [
-        r#"{"fields":{"k":5}}"#,
-        r#"{"on":{}}"#,
-        r#"{"fields":{},"on":{},"by":"@"}"#,
-        r#"{"fields":{},"on":{"made":{"announce":null}}}"#,
-        r#"{"fields":{},"on":{"made":{"announce":1}}}"#,
-        r#"{"fields":{},"on":{"made":{"announce":"true"}}}"#,
-        r#"{"fields":{},"on":{"made":{"start":true}}}"#,
-        r#"{"fields":{},"on":{"made":{"guards":[["=","n",0]]}}}"#,
-        r#"{"fields":{"a":0,"b":1,"c":2,"d":3,"e":4,"f":5,"g":6,"h":7,"k":8},"on":{}}"#,
-    ];
-    assert_eq!(rt; first_read(rt.alloc(), PROJECTION, &pieces)?, None);
-    Ok(())
-}
-
-#[test]
-fn numbers_that_fields_begin_with(rt: HostRuntime) -> Result<(), Fail> {
-    let pieces = [
-        r#"{"n":9223372036854775807}"#,
-        r#"{"n":-9223372036854775808}"#,
-        r#"{"m":-1,"n":0}"#,
-    ];
-    assert_eq!(rt; first_lost(rt.alloc(), r#"{"n":0}"#, &pieces)?, None);
-    Ok(())
-}
-
-#[test]
-fn numbers_that_are_none(rt: HostRuntime) -> Result<(), Fail> {
-    let pieces = [
-        r#"{"n":9223372036854775808}"#,
-        r#"{"n":-9223372036854775809}"#,
-        r#"{"n":1.0}"#,
-        r#"{"n":1e2}"#,
-        r#"{"n":-0}"#,
-        r#"{"n":"0"}"#,
-        r#"{"n":null}"#,
-        r#"{"n":true}"#,
-        r#"{"n":[0]}"#,
-    ];
-    assert_eq!(rt; first_read(rt.alloc(), r#"{"n":0}"#, &pieces)?, None);
-    Ok(())
-}
-
-#[test]
-fn what_the_aggregate_does(rt: HostRuntime) -> Result<(), Fail> {
-    let pieces = [
-        r#"{}"#,
-        r#"{"guards":[["=","n","$a"],["!=",1,2]]}"#,
-        r#"{"guards":[["<","n","$a"]],"sets":{"n":"$n"}}"#,
-    ];
-    assert_eq!(rt; first_lost(rt.alloc(), RULE, &pieces)?, None);
-    Ok(())
-}
-
-#[test]
-fn what_no_aggregate_does(rt: HostRuntime) -> Result<(), Fail> {
-    let pieces = [
-        r#"{"announce":false}"#,
-        r#"{"announce":true}"#,
-        r#"{"x":1}"#,
-        r#"{"guards":null}"#,
-        r#"{"guards":{}}"#,
-        r#"{"guards":[["=","n"]]}"#,
-        r#"{"sets":null}"#,
-        r#"{"sets":[]}"#,
-        r#"{"sets":{"m":1}}"#,
-        r#"{"sets":{"k":1}}"#,
-        r#"{"sets":{"$n":1}}"#,
-        r#"[]"#,
-        r#"null"#,
-    ];
-    assert_eq!(rt; first_read(rt.alloc(), RULE, &pieces)?, None);
-    Ok(())
-}
-
-#[test]
-fn expressions_that_are_read(rt: HostRuntime) -> Result<(), Fail> {
-    let pieces = [
-        r#"-1"#,
-        r#"9223372036854775807"#,
-        r#""n""#,
-        r#""$n""#,
-        r#""$0-_""#,
-        r#"["-","$a",["*","n",-1]]"#,
-        r#"["+",["+",["+",["+",["+",["+",["+","n",1],1],1],1],1],1],1]"#,
-        r#"["*",1,["*",1,["*",1,["*",1,["*",1,["*",1,["*",1,"n"]]]]]]]"#,
-    ];
-    assert_eq!(rt; first_lost(rt.alloc(), EXPRESSION, &pieces)?, None);
-    Ok(())
-}
-
-#[test]
-fn expressions_that_are_too_deep(rt: HostRuntime) -> Result<(), Fail> {
-    let pieces = [
-        r#"["+",["+",["+",["+",["+",["+",["+",["+","n",1],1],1],1],1],1],1],1]"#,
-        r#"["*",1,["*",1,["*",1,["*",1,["*",1,["*",1,["*",1,["*",1,"n"]]]]]]]]"#,
-    ];
-    assert_eq!(rt; first_read(rt.alloc(), EXPRESSION, &pieces)?, None);
-    Ok(())
-}
-
-#[test]
-fn leaves_that_are_none(rt: HostRuntime) -> Result<(), Fail> {
-    let pieces = [
-        r#""m""#,
-        r#""k""#,
-        r#""""#,
-        r#""$""#,
-        r#""$-""#,
-        r#""$a b""#,
-        r#""$$a""#,
-        r#""@""#,
-        r#"1.5"#,
-        r#"-9223372036854775809"#,
-        r#"null"#,
-        r#"true"#,
-        r#"{}"#,
-    ];
-    assert_eq!(rt; first_read(rt.alloc(), EXPRESSION, &pieces)?, None);
-    Ok(())
-}
-
-#[test]
-fn operations_that_are_none(rt: HostRuntime) -> Result<(), Fail> {
-    let pieces = [
-        r#"[]"#,
-        r#"["n"]"#,
-        r#"["+","n"]"#,
-        r#"["+","n",1,1]"#,
-        r#"["/","n",1]"#,
-        r#"["","n",1]"#,
-        r#"["<","n",1]"#,
-        r#"[1,"n",1]"#,
-        r#"["+","m",1]"#,
-        r#"["+",1,"m"]"#,
-        r#"["+",1,null]"#,
-    ];
-    assert_eq!(rt; first_read(rt.alloc(), EXPRESSION, &pieces)?, None);
+fn write_item(item: &Item, out: &mut Vec<u8>) -> Result<(), NoMemory> {
+    item.name.write(out)?;
+    out.push(b' ')?;
+    item.kind.write(out)?;
+    out.push(b' ')?;
+    item.payload.write(out)?;
+    out.push(b';')?;
     Ok(())
 }

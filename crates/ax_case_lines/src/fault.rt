@@ -1,0 +1,29 @@
+use ax_values::NoMemory;
+use std::alloc::{AllocError, AllocFailed};
+
+/// Why a case has no answer.
+#[derive(Clone, Copy, Debug, PartialEq, Eq)]
+pub enum CaseFault {
+    /// There is no such case: the line is not in the grammar, or a call may not be made so.
+    Line,
+    /// Memory was wanting.
+    Memory,
+}
+
+impl From<NoMemory> for CaseFault {
+    fn from(_: NoMemory) -> CaseFault {
+        CaseFault::Memory
+    }
+}
+
+impl From<AllocError> for CaseFault {
+    fn from(_: AllocError) -> CaseFault {
+        CaseFault::Memory
+    }
+}
+
+impl<T: Drop> From<AllocFailed<T>> for CaseFault {
+    fn from(_: AllocFailed<T>) -> CaseFault {
+        CaseFault::Memory
+    }
+}
