@@ -63,7 +63,7 @@ pub enum Shape {
     Command,
 }
 
-/// A form's word, which stands behind the word `show` where it is shown, and the shape of its fields.
+/// A form's word, which follows the word `show` where it is shown, and the shape of its fields.
 #[derive(Clone, Copy)]
 pub(crate) struct Kind {
     pub(crate) shown: bool,

@@ -115,6 +115,32 @@ macro_rules! form_by_name {
     };
 }
 
+/// The fields of an order, which stand in it: the table names the orders of each shape that several have.
+macro_rules! borrowed_fields {
+    (
+        $order:expr;
+        name: $($named:ident $field:ident),*;
+        segment: $($on_segment:ident),*;
+        up_to: $($up_to:ident),*;
+        item: $($on_item:ident),*
+    ) => {
+        match $order {
+            Order::Tick { ms } => BorrowedFields::Moment(*ms),
+            Order::Void { cell } => BorrowedFields::Cell(*cell),
+            Order::Send { aggregate, command, args } =>
+                BorrowedFields::Command { aggregate, command, args },
+            Order::Policy { processor, keep } => BorrowedFields::Policy { processor, keep: *keep },
+            $(Order::$named { $field: name })|* => BorrowedFields::Name(name),
+            $(Order::$on_segment { processor, segment })|* =>
+                BorrowedFields::Segment { processor, segment: *segment },
+            $(Order::$up_to { processor, segment, max })|* =>
+                BorrowedFields::UpTo { processor, segment: *segment, max: *max },
+            $(Order::$on_item { processor, item })|* => BorrowedFields::Item { processor, item },
+            _ => BorrowedFields::Nothing,
+        }
+    };
+}
+
 impl Order {
     /// The form of the order's line.
     pub fn form(&self) -> Form
@@ -127,55 +153,12 @@ impl Order {
     pub(crate) fn fields(&self) -> BorrowedFields<'_>
         ensures { given_of result ≡ fields_of self.now }
     {
-        match self {
-            Order::Tick { ms } => BorrowedFields::Moment(*ms),
-            Order::Void { cell } => BorrowedFields::Cell(*cell),
-            Order::Send {
-                aggregate,
-                command,
-                args,
-            } => BorrowedFields::Command {
-                aggregate,
-                command,
-                args,
-            },
-            Order::Policy { processor, keep } => BorrowedFields::Policy {
-                processor,
-                keep: *keep,
-            },
-            Order::Snapshot { aggregate: name }
-            | Order::Reset { processor: name }
-            | Order::Take { processor: name }
-            | Order::ShowRows { processor: name }
-            | Order::ShowTokens { processor: name }
-            | Order::ShowLetters { processor: name }
-            | Order::ShowSagas { processor: name } => BorrowedFields::Name(name),
-            Order::Claim { processor, segment }
-            | Order::Extend { processor, segment }
-            | Order::Release { processor, segment }
-            | Order::Split { processor, segment }
-            | Order::Merge { processor, segment } => BorrowedFields::Segment {
-                processor,
-                segment: *segment,
-            },
-            Order::Fetch {
-                processor,
-                segment,
-                max,
-            }
-            | Order::Advance {
-                processor,
-                segment,
-                max,
-            } => BorrowedFields::UpTo {
-                processor,
-                segment: *segment,
-                max: *max,
-            },
-            Order::Evict { processor, item }
-            | Order::Mark { processor, item }
-            | Order::Heal { processor, item } => BorrowedFields::Item { processor, item },
-            _ => BorrowedFields::Nothing,
+        borrowed_fields! { self;
+            name: Snapshot aggregate, Reset processor, Take processor, ShowRows processor,
+                ShowTokens processor, ShowLetters processor, ShowSagas processor;
+            segment: Claim, Extend, Release, Split, Merge;
+            up_to: Fetch, Advance;
+            item: Evict, Mark, Heal
         }
     }
 }

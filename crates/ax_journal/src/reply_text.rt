@@ -35,6 +35,13 @@ macro_rules! write_labelled {
     };
 }
 
+/// Writes values as parts of a line.
+macro_rules! write_each {
+    ($out:ident; $($part:ident $value:expr),*) => {
+        write_parts(&[$(Part::$part($value)),*], $out)
+    };
+}
+
 fn write_log_values(reply: &Reply, out: &mut Vec<u8>) -> Result<(), NoMemory>
     ensures ok { OnOk result (out.new.items ≡ out.old.items ++ spaced (log_values reply.now)) }
     ensures err { OnErr result (out.new.items ≡ out.old.items) }
@@ -122,18 +129,7 @@ fn write_refusal_values(reply: &Reply, out: &mut Vec<u8>) -> Result<(), NoMemory
             aggregate,
             read,
             found,
-        } => {
-            write_parts(
-                &[
-                    Part::Name(aggregate),
-                    Part::Word(b"read"),
-                    Part::Seen(read),
-                    Part::Word(b"found"),
-                    Part::Seen(found),
-                ],
-                out,
-            )
-        }
+        } => write_each!(out; Name aggregate, Word b"read", Seen read, Word b"found", Seen found),
         Reply::SequenceFull { aggregate } => write_parts(&[Part::Name(aggregate)], out),
         Reply::LettersTaken { by, since } =>
             write_labelled!(out; b"by" Name by, b"since" Number *since),

@@ -4,6 +4,7 @@ use Rattle.std.proofs.Common.{refl, ap, sym, ◌∙◌, ⊎_elim, arith}
 use Rattle.std.proofs.lemmas.Bool.Decides.{nat_tests}
 use Rattle.std.proofs.lemmas.Option.{slice_get_past}
 use borrow.Author.Tests.{eqb-true}
+use Rattle.ax_laws.proofs.Lists.{none-left}
 use Rattle.ax_values.specs.declared.record.Record.{Record}
 use Rattle.ax_values.specs.declared.cell.Cell.{Cell}
 use Rattle.ax_log.specs.Log.{Stored, events_from, is_reserved, option_is, put_at, put_cells}
@@ -164,17 +165,13 @@ length-own t (Cell.Event q ∷ cs) k (suc i) r o own = at (t event) (filter t (e
     at true xs ys e = ap suc e
     at false xs ys e = e
 
-none-left : {A : Type 0} (xs : List A) → 0 ≡ length xs → xs ≡ []
-none-left [] e = refl
-none-left (x ∷ xs) e = absurd (omega arith)
-
 -- where all that pass stand before the place, and the event has the next number, all are numbered
 pub numbered-own : (t : Stored → Bool) (cells : List Cell) (n k i : ℕ) (r : Record) → IsOpen cells i → ((j : ℕ) → t (record { index = j; record_of = r }) ≡ true)
     → length (filter t (events_from k (take i cells))) ≡ length (filter t (events_from k cells)) → r.seq ≡ n + length (filter t (events_from k cells))
     → AreNumbered n (filter t (events_from k cells)) → AreNumbered n (filter t (events_from k (put i (Cell.Event r) cells)))
 numbered-own t [] n k zero r o own last next h = let is : r.seq ≡ n = omega arith in rw (own k) (is, tt)
 numbered-own t (Cell.Reserved a s w u ∷ cs) n k zero r o own last next h =
-    let none : filter t (events_from (suc k) cs) ≡ [] = none-left (filter t (events_from (suc k) cs)) last in
+    let none : filter t (events_from (suc k) cs) ≡ [] = none-left (filter t (events_from (suc k) cs)) (sym last) in
     let is : r.seq ≡ n = omega arith in rw (own k, none) (is, tt)
 numbered-own t (Cell.Void ∷ cs) n k zero r o own last next h = absurd (let e : false ≡ true = o.free in cc)
 numbered-own t (Cell.Event q ∷ cs) n k zero r o own last next h = absurd (let e : false ≡ true = o.free in cc)

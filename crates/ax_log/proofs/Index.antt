@@ -6,6 +6,7 @@ use Rattle.std.proofs.lemmas.Bool.Decides.{nat_tests}
 use borrow.Author.Tests.{eqb-true}
 use Rattle.std.proofs.lemmas.List.{take-take, length-take}
 use Rattle.std.proofs.lemmas.Slice.Eq.{bytes_eq-Decides}
+use Rattle.ax_laws.proofs.Options.{some-is}
 use Rattle.ax_values.specs.Grammar.{Name}
 use Rattle.ax_values.specs.declared.record.Record.{Record}
 use Rattle.ax_values.specs.declared.cell.Cell.{Cell}
@@ -261,9 +262,6 @@ last-front a cells i l e h = record {
     below : l ≤ i
     below = at-most l refl
 
-some-same : {A : Type 0} (x y : A) → Some x ≡ Some y → x ≡ y
-some-same x y e = cc
-
 -- ---- a number is put beside it
 
 get-end : {A : Type 0} (xs : List A) (x : A) (j : ℕ) → j ≡ length xs → slice_get (xs ++ x ∷ []) j ≡ Some x
@@ -378,9 +376,9 @@ index_put cells before last later i x can h index lasts = record {
 
         here : j ≡ i → IsLast r.aggregate (take j (put i x cells)) l
         here same =
-            let cell : x ≡ Cell.Event r = some-same x (Cell.Event r) (sym (get-same cells i x o.within) ∙ ap (slice_get (put i x cells)) (sym same) ∙ e) in
+            let cell : x ≡ Cell.Event r = some-is x (Cell.Event r) (sym (get-same cells i x o.within) ∙ ap (slice_get (put i x cells)) (sym same) ∙ e) in
             let long : i ≤ length before = (let le : i ≤ length cells = o.within in let eq : length before ≡ length cells = index.long in omega arith) in
-            let number : before_of x last ≡ l = some-same (before_of x last) l (sym (put_at-same before i (before_of x last) long) ∙ ap (slice_get (put_at before i (before_of x last))) (sym same) ∙ f) in
+            let number : before_of x last ≡ l = some-is (before_of x last) l (sym (put_at-same before i (before_of x last) long) ∙ ap (slice_get (put_at before i (before_of x last))) (sym same) ∙ f) in
             let is-last : last_of r.aggregate last ≡ l = ap (λ (y : Cell). before_of y last) (sym cell) ∙ number in
             let own : has_event_of r.aggregate x ≡ true = ap (has_event_of r.aggregate) cell ∙ (bytes_eq-Decides r.aggregate r.aggregate).1 refl in
             subst (λ (cs : List Cell). IsLast r.aggregate cs l) (sym (ap (λ (n : ℕ). take n (put i x cells)) same ∙ take-before cells i i x (omega arith)))

@@ -185,8 +185,8 @@ impl Log {
         self.streams.room(puts)
     }
 
-    /// Puts a cell at the end, where there is room, or over a reserved one, if the log then keeps its order: what a
-    /// change answers may be put. It takes no memory.
+    /// Puts a cell at the end, where there is room, or over a reserved one, if the log then keeps its order: what
+    /// `reserve`, `append` and `void` return may be put. It takes no memory.
     pub fn put(&mut self, put: CellPut)
         requires room { put.index ≡ length self.old.cells → 0 < self.old.room.cells }
         requires known { IsKnown self.old.room.names put.cell }

@@ -100,7 +100,7 @@ impl Streams {
         put_at(&mut self.before, index, before);
     }
 
-    /// Makes the cell's event the last one of its aggregate, and answers the one that was, as one more than its index or 0.
+    /// Makes the cell's event the last one of its aggregate, and returns the one that was, as one more than its index or 0.
     fn take_last(&mut self, index: u32, cell: &Cell) -> u32
         requires known { IsKnown (keys self.old.last) cell.now }
         requires size { index < max_cells }

@@ -53,10 +53,10 @@ pub trait Keeper {
     /// How often it has failed.
     ghost faults: { Self → ℕ };
 
-    /// How many commits it was asked for, where it tells this.
+    /// How many commits it was asked for, where it says so.
     ghost commits: { Self → Option ℕ };
 
-    /// Its rows, rising by table and key, where it tells them.
+    /// Its rows, rising by table and key, where it shows them.
     ghost tables: { Self → Option (List TableRow) };
 
     /// Adds all rows to the list, rising by table and key. At an error the list is as before.

@@ -1,5 +1,5 @@
 //! What the runtime needs of the outside: a source of bytes, a sink for bytes, a keeper of tables and a gate.
-//! Each counts its faults, and a fault is answered only where its count rose.
+//! Each counts its faults, and a fault is returned only where its count rose.
 #![tactic(auto)]
 
 mod calls;

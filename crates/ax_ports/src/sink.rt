@@ -8,7 +8,7 @@ use std::io::Write;
 
 /// Takes bytes.
 pub trait Sink {
-    /// The bytes that were taken, where the sink tells them.
+    /// The bytes that were taken, where the sink shows them.
     ghost taken: { Self → Option (List ℕ) };
 
     /// How often it has failed.
@@ -79,7 +79,7 @@ impl Sink for MemorySink {
     }
 }
 
-/// A writer of std. It tells nothing of its bytes.
+/// A writer of std. It shows nothing of its bytes.
 #[derive(Drop)]
 pub struct StdSink<V> {
     writer: V,

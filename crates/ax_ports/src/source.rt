@@ -9,7 +9,7 @@ use std::io::Read;
 
 /// Gives bytes.
 pub trait Source {
-    /// The bytes that are left, where the source tells them.
+    /// The bytes that are left, where the source shows them.
     ghost left: { Self → Option (List ℕ) };
 
     /// How often it has failed.
@@ -84,7 +84,7 @@ fn copy_front(from: &[u8], room: &mut [u8]) -> usize
     count
 }
 
-/// A reader of std, or none, at which each read fails. It tells nothing of its bytes.
+/// A reader of std, or none, at which each read fails. It shows nothing of its bytes.
 #[derive(Drop)]
 pub struct StdSource<R> {
     reader: Option<R>,

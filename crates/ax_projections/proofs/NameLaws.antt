@@ -3,6 +3,7 @@ use Rattle.std.proofs.Common.{◌≡◌, ◌≤◌, suc, Bool, true, false, not,
 use Rattle.std.specs.Prelude.{find, option_map, if◌then◌else◌}
 use Rattle.std.specs.List.{list_any}
 use Rattle.std.proofs.lemmas.Slice.Eq.{bytes_eq-Decides}
+use Rattle.ax_laws.proofs.Tests.{neither, not-both}
 use Rattle.ax_values.specs.Grammar.{Name}
 use Rattle.ax_values.specs.Words.{same_name}
 use Rattle.ax_projections.specs.Table.{Entry, look_up, put_entry}
@@ -92,17 +93,9 @@ abbrev pub differ : List Name → Bool
 differ [] = true
 differ (k ∷ ks) = not (list_any (same_name k) ks) && differ ks
 
-either : (a b : Bool) → (a || b) ≡ false → (a ≡ false) × (b ≡ false)
-either true b h = cc
-either false b h = (refl, h)
-
-pub both : (a b : Bool) → (not a && b) ≡ true → (a ≡ false) × (b ≡ true)
-both true b h = cc
-both false b h = (refl, h)
-
 any-without : (k n : Name) (ms : List Name) → list_any (same_name k) ms ≡ false → list_any (same_name k) (without n ms) ≡ false
 any-without k n [] h = refl
-any-without k n (m ∷ ms) h = at (same_name n m) (either (same_name k m) (list_any (same_name k) ms) h).0 (any-without k n ms (either (same_name k m) (list_any (same_name k) ms) h).1)
+any-without k n (m ∷ ms) h = at (same_name n m) (neither (same_name k m) (list_any (same_name k) ms) h).0 (any-without k n ms (neither (same_name k m) (list_any (same_name k) ms) h).1)
   where
     at : (b : Bool) → same_name k m ≡ false → list_any (same_name k) (without n ms) ≡ false → list_any (same_name k) (cond (not b) (m ∷ without n ms) (without n ms)) ≡ false
     at true p q = q
@@ -119,7 +112,7 @@ none-without n (m ∷ ms) = at (same_name n m) refl (none-without n ms)
 differ-without : (n : Name) (ms : List Name) → differ ms ≡ true → differ (without n ms) ≡ true
 differ-without n [] h = refl
 differ-without n (m ∷ ms) h =
-    let k = both (list_any (same_name m) ms) (differ ms) h in
+    let k = not-both (list_any (same_name m) ms) (differ ms) h in
     at (same_name n m) (any-without m n ms k.0) (differ-without n ms k.1)
   where
     at : (b : Bool) → list_any (same_name m) (without n ms) ≡ false → differ (without n ms) ≡ true → differ (cond (not b) (m ∷ without n ms) (without n ms)) ≡ true
@@ -167,12 +160,12 @@ row f k = record { name = k; value = f k }
 map-apart : (f g : Name → Positioned) (a : Name) → ((b : Name) → same_name a b ≡ false → g b ≡ f b) → (ks : List Name) → list_any (same_name a) ks ≡ false → map (row g) ks ≡ map (row f) ks
 map-apart f g a h [] n = refl
 map-apart f g a h (k ∷ ks) n =
-    let e = either (same_name a k) (list_any (same_name a) ks) n in
+    let e = neither (same_name a k) (list_any (same_name a) ks) n in
     ap (λ v. record { name = k; value = v } ∷ map (row g) ks) (h k e.0) ∙ ap (λ es. row f k ∷ es) (map-apart f g a h ks e.1)
 
 pub map-put : (f g : Name → Positioned) (a : Name) → ((b : Name) → same_name a b ≡ false → g b ≡ f b) → (ks : List Name) → differ ks ≡ true → map (row g) (push_new a ks) ≡ put_entry a (g a) (map (row f) ks)
 map-put f g a h [] d = refl
-map-put f g a h (k ∷ ks) d = at (same_name a k) refl (both (list_any (same_name k) ks) (differ ks) d).0 (map-put f g a h ks (both (list_any (same_name k) ks) (differ ks) d).1)
+map-put f g a h (k ∷ ks) d = at (same_name a k) refl (not-both (list_any (same_name k) ks) (differ ks) d).0 (map-put f g a h ks (not-both (list_any (same_name k) ks) (differ ks) d).1)
   where
     at : (b : Bool) → same_name a k ≡ b → list_any (same_name k) ks ≡ false → map (row g) (push_new a ks) ≡ put_entry a (g a) (map (row f) ks)
         → map (row g) (if b then k ∷ ks else k ∷ push_new a ks) ≡ (if b then record { name = k; value = g a } ∷ map (row f) ks else row f k ∷ put_entry a (g a) (map (row f) ks))
@@ -193,5 +186,5 @@ found f a (k ∷ ks) h = at (same_name a k) refl h (found f a ks)
 pub missing : (f : Name → Positioned) (a : Name) (ks : List Name) → list_any (same_name a) ks ≡ false → look_up a (map (row f) ks) ≡ None
 missing f a [] h = refl
 missing f a (k ∷ ks) h =
-    let e = either (same_name a k) (list_any (same_name a) ks) h in
+    let e = neither (same_name a k) (list_any (same_name a) ks) h in
     ap (λ b. option_map (λ (x : Entry). x.value) (cond b (Some (row f k)) (find (λ (x : Entry). same_name a x.name) (map (row f) ks)))) e.0 ∙ missing f a ks e.1

@@ -51,7 +51,7 @@ impl Table {
         self.rows.get(aggregate)
     }
 
-    /// Puts the row in the place of the aggregate's, or at the end where it has none. At an aggregate that is there it wants
+    /// Puts the row in the place of the aggregate's, or at the end where it has none. At an aggregate that is there it needs
     /// no memory, nor where there is room. Where memory is wanting, the table's rows stay.
     pub fn put(&mut self, aggregate: Name, value: Positioned) -> Result<(), NoMemory>
         requires { IsNone (look_up aggregate self.old.entries) → length self.old.entries < 2 ^ 32 - 1 }

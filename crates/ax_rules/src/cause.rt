@@ -24,7 +24,7 @@ pub enum BorrowedCause<'a> {
 }
 
 impl BorrowedCause<'_> {
-    /// The cause with a name of its own. It wants memory for that name alone.
+    /// The cause with a name of its own. It needs memory for that name alone.
     pub fn own(self, alloc: Global) -> Result<Cause, NoMemory>
         ensures { IfOk result (λ cause. cause ≡ cause_of self.entry) }
     {

@@ -17,8 +17,8 @@ pub enum Why {
 }
 
 impl Why {
-    /// The why that the text is: `marked`, `behind`, `overflow`, `missing NAME` or `guard G`. None comes exactly where no
-    /// why is written so.
+    /// The why that the text is: `marked`, `overflow`, `missing NAME`, `guard G`, or the word of a later item of a parked
+    /// sequence. None comes exactly where no why is written so.
     pub fn read(alloc: Global, text: &[u8]) -> Result<Option<Why>, NoMemory>
         ensures value { IfOk result (λ read. read ≡ why_in text.now) }
         ensures written { IfOk result (λ read. IfSome read (λ why. why_text why ≡ text.now)) }

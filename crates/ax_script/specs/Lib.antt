@@ -1,4 +1,5 @@
 pub mod Lines
+pub mod Kinds
 pub mod Queues
 pub mod Forms
 pub mod Judging

@@ -1,3 +1,6 @@
+ghost use Rattle.std.specs.Prelude.{◌≡◌};
+ghost use Rattle.ax_script.specs.Kinds.{kind_text};
+
 use ax_values::NoMemory;
 use std::alloc::AllocError;
 
@@ -26,6 +29,27 @@ pub enum ScriptKind {
     Stopped,
     /// An actor does not stand in the schedule as often as it has steps.
     Schedule,
+}
+
+impl ScriptKind {
+    /// The kind's word, as messages have it.
+    pub fn word(self) -> &'static [u8]
+        ensures { result.now ≡ kind_text self }
+    {
+        match self {
+            ScriptKind::Long => b"long",
+            ScriptKind::Cut => b"cut",
+            ScriptKind::Bytes => b"bytes",
+            ScriptKind::Form => b"form",
+            ScriptKind::Later => b"later",
+            ScriptKind::Sheet => b"sheet",
+            ScriptKind::Twice => b"twice",
+            ScriptKind::Unknown => b"unknown",
+            ScriptKind::Limit => b"limit",
+            ScriptKind::Stopped => b"stopped",
+            ScriptKind::Schedule => b"schedule",
+        }
+    }
 }
 
 /// Why a script was not read.

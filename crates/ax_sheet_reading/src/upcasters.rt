@@ -101,7 +101,7 @@ fn remove_of(values: &[Json]) -> Option<Act>
     }
 }
 
-/// An act by its word and what stands behind it.
+/// An act by its word and what follows it.
 fn act_by(alloc: Global, word: &[u8], values: &[Json]) -> Result<Option<Act>, NoMemory>
     ensures { IfOk result (λ act. act ≡ act_by word.now (items_view values.now)) }
 {

@@ -26,7 +26,7 @@ pub(crate) fn place_of(fields: &[Initial], name: &[u8]) -> Option<u32>
     None
 }
 
-/// The name behind `$`.
+/// The name after `$`.
 pub fn copied(alloc: Global, text: &[u8]) -> Result<Option<Name>, NoMemory>
     ensures value { IfOk result (λ name. name ≡ copied text.now) }
 {

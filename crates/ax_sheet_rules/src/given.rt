@@ -37,7 +37,7 @@ pub fn given_of(alloc: Global, names: Names, value: &Json) -> Result<Option<Give
     }
 }
 
-/// Reads given fields, in which these names may stand behind `$`.
+/// Reads given fields, in which these names may stand after `$`.
 #[derive(Drop)]
 struct GivenFieldReader<'a> {
     names: Names<'a>,
@@ -62,7 +62,7 @@ impl ReadsMember for GivenFieldReader<'_> {
     }
 }
 
-/// Reads templates, in which these names may stand behind `$`: a kind, a revision and given fields.
+/// Reads templates, in which these names may stand after `$`: a kind, a revision and given fields.
 #[derive(Drop)]
 struct TemplateReader<'a> {
     names: Names<'a>,

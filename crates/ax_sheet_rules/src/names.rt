@@ -5,7 +5,7 @@ use ax_rules::ParamKind;
 use ax_sheet_parts::Param;
 use ax_values::Name;
 
-/// The names that may stand behind `$`.
+/// The names that may stand after `$`.
 #[derive(Clone, Copy)]
 pub enum Names<'a> {
     Any,

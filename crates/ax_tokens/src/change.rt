@@ -1,8 +1,7 @@
-ghost use Rattle.std.specs.Prelude.{◌≡◌, ◌↔◌, ◌≤◌, ℕ, ◌&&◌, ◌||◌, true, false, length, nat_lt, IsTrue, IfOk, if◌then◌else◌};
-ghost use Rattle.ax_log.specs.Log.{is_settled};
-ghost use Rattle.ax_segments.specs.Segments.{Segment as Part, IsSegment, is_upper, half_mask};
+ghost use Rattle.std.specs.Prelude.{◌≡◌, ◌≤◌, ℕ, ◌&&◌, true, false, length, IsTrue, IfOk};
 ghost use Rattle.ax_tokens.specs.Plain.{has};
-ghost use Rattle.ax_tokens.specs.Tokens.{merged, covers, replays, meets, advanced, ever_covered, reset, lower_part, upper_part, joins, joined, caught_up, collapsed, is_collapsed, is_canonical, masks_fit, IsMet};
+ghost use Rattle.ax_tokens.specs.Tokens.{merged, covers, replays, meets, advanced, ever_covered, reset, lower_part, upper_part, joins, joined, caught_up, collapsed, is_collapsed, is_canonical};
+ghost use Rattle.ax_tokens.specs.Meaning.{SameSets, CoversTo, ServesHalves, IsPartFor, IsAllMet};
 ghost use Rattle.ax_tokens.specs.Nodes.{token_of};
 
 use crate::{Half, Plain, Token};
@@ -14,8 +13,8 @@ impl Token {
     pub fn advance(&self, alloc: Global, cells: &[Cell], to: u32) -> Result<Token, NoMemory>
         requires { to ≤ length cells.now }
         ensures value { IfOk result (λ later. token_of later ≡ advanced cells.now to (token_of self.now)) }
-        ensures sets { IfOk result (λ later. (mask hash index : ℕ) → covers (token_of later) mask hash index ≡ (covers (token_of self.now) mask hash index || (nat_lt index to && is_settled cells.now index))) }
-        ensures replayed { IfOk result (λ later. (mask hash index : ℕ) → replays (token_of later) mask hash index ≡ replays (token_of self.now) mask hash index) }
+        ensures sets { IfOk result (λ later. CoversTo cells.now to (token_of self.now) (token_of later)) }
+        ensures replayed { IfOk result (λ later. SameSets replays (token_of self.now) (token_of later)) }
         ensures canonical { IfOk result (λ later. IsTrue (is_canonical (token_of later))) }
     {
         let later = self.advanced(alloc, cells, to)?;
@@ -26,8 +25,8 @@ impl Token {
     /// One token whose halves are the two: each hash keeps the set of its half, and what it replays.
     pub fn merge(alloc: Global, lower: Token, upper: Token) -> Result<Token, NoMemory>
         ensures value { IfOk result (λ both. token_of both ≡ merged (token_of lower) (token_of upper)) }
-        ensures sets { IfOk result (λ both. (mask hash index : ℕ) → covers (token_of both) mask hash index ≡ (if is_upper mask hash then covers (token_of upper) (half_mask mask) hash index else covers (token_of lower) (half_mask mask) hash index)) }
-        ensures replayed { IfOk result (λ both. (mask hash index : ℕ) → replays (token_of both) mask hash index ≡ (if is_upper mask hash then replays (token_of upper) (half_mask mask) hash index else replays (token_of lower) (half_mask mask) hash index)) }
+        ensures sets { IfOk result (λ both. ServesHalves covers (token_of lower) (token_of upper) (token_of both)) }
+        ensures replayed { IfOk result (λ both. ServesHalves replays (token_of lower) (token_of upper) (token_of both)) }
         ensures canonical { IfOk result (λ both. IsTrue (is_canonical (token_of both))) }
     {
         let both = Token::Merged(Half::of(alloc, lower)?, Half::of(alloc, upper)?);
@@ -39,10 +38,10 @@ impl Token {
     pub fn split_token(&self, alloc: Global) -> Result<(Token, Token), NoMemory>
         ensures lower { IfOk result (λ halves. token_of halves.0 ≡ lower_part (token_of self.now)) }
         ensures upper { IfOk result (λ halves. token_of halves.1 ≡ upper_part (token_of self.now)) }
-        ensures lower_sets { IfOk result (λ halves. (mask hash index : ℕ) → is_upper mask hash ≡ false → covers (token_of halves.0) (half_mask mask) hash index ≡ covers (token_of self.now) mask hash index) }
-        ensures upper_sets { IfOk result (λ halves. (mask hash index : ℕ) → is_upper mask hash ≡ true → covers (token_of halves.1) (half_mask mask) hash index ≡ covers (token_of self.now) mask hash index) }
-        ensures lower_replayed { IfOk result (λ halves. (mask hash index : ℕ) → is_upper mask hash ≡ false → replays (token_of halves.0) (half_mask mask) hash index ≡ replays (token_of self.now) mask hash index) }
-        ensures upper_replayed { IfOk result (λ halves. (mask hash index : ℕ) → is_upper mask hash ≡ true → replays (token_of halves.1) (half_mask mask) hash index ≡ replays (token_of self.now) mask hash index) }
+        ensures lower_sets { IfOk result (λ halves. IsPartFor covers false (token_of self.now) (token_of halves.0)) }
+        ensures upper_sets { IfOk result (λ halves. IsPartFor covers true (token_of self.now) (token_of halves.1)) }
+        ensures lower_replayed { IfOk result (λ halves. IsPartFor replays false (token_of self.now) (token_of halves.0)) }
+        ensures upper_replayed { IfOk result (λ halves. IsPartFor replays true (token_of self.now) (token_of halves.1)) }
         ensures canonical { IfOk result (λ halves. IsTrue (is_canonical (token_of halves.0) && is_canonical (token_of halves.1))) }
     {
         let halves = self.halves(alloc)?;
@@ -56,7 +55,7 @@ impl Token {
         ensures value { IfOk result (λ anew. token_of anew ≡ reset (token_of self.now)) }
         ensures covered { IfOk result (λ anew. (mask hash index : ℕ) → covers (token_of anew) mask hash index ≡ false) }
         ensures before { IfOk result (λ anew. (mask hash index : ℕ) → replays (token_of anew) mask hash index ≡ has (ever_covered (token_of self.now)) index) }
-        ensures met { IfOk result (λ anew. (segment : Part) → IsSegment segment → IsTrue (masks_fit segment.mask (token_of self.now)) → (index : ℕ) → (has (ever_covered (token_of self.now)) index ≡ true) ↔ IsMet (token_of self.now) segment index) }
+        ensures met { IfOk result (λ anew. IsAllMet (token_of self.now)) }
         ensures canonical { IfOk result (λ anew. IsTrue (is_canonical (token_of anew))) }
     {
         let anew = Token::Replay {
@@ -72,8 +71,8 @@ impl Token {
     /// chosen by the next bit.
     pub fn collapse(self, alloc: Global) -> Result<Token, NoMemory>
         ensures value { IfOk result (λ less. token_of less ≡ collapsed (token_of self)) }
-        ensures covered { IfOk result (λ less. (mask hash index : ℕ) → covers (token_of less) mask hash index ≡ covers (token_of self) mask hash index) }
-        ensures met { IfOk result (λ less. (mask hash index : ℕ) → meets (token_of less) mask hash index ≡ meets (token_of self) mask hash index) }
+        ensures covered { IfOk result (λ less. SameSets covers (token_of self) (token_of less)) }
+        ensures met { IfOk result (λ less. SameSets meets (token_of self) (token_of less)) }
         ensures collapsed { IfOk result (λ less. IsTrue (is_collapsed (token_of less))) }
         ensures again { IfOk result (λ less. collapsed (token_of less) ≡ token_of less) }
         ensures canonical { IfOk result (λ less. IsTrue (is_canonical (token_of less))) }

@@ -191,7 +191,7 @@ fn gaps_of_both(alloc: Global, gaps: &[u32], other: &Plain) -> Result<Vec<u32>, 
     Ok(both)
 }
 
-/// What is left of a rising list behind all that is below an index.
+/// What is left of a rising list after all that is below an index.
 fn from(gaps: &[u32], index: u32) -> &[u32]
     ensures { result.now ≡ from index gaps.now }
 {

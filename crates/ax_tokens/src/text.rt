@@ -105,7 +105,7 @@ fn write_led(gaps: &[u32], out: &mut Vec<u8>) -> Result<(), NoMemory>
     Ok(())
 }
 
-/// The token at the front of the text, with at most `room` halves within one another, and what stands behind it.
+/// The token at the front of the text, with at most `room` halves within one another, and what follows it.
 #[cycle(read)]
 fn token_at(alloc: Global, room: u32, text: &[u8]) -> Result<Option<(Token, &[u8])>, NoMemory>
     ensures { IfOk result (λ read. option_map (λ t. record { value = token_of t.0; rest = t.1.now }) read ≡ token_at room text.now) }
@@ -250,7 +250,7 @@ fn digits_at(text: &[u8]) -> (&[u8], &[u8])
     (text, &[])
 }
 
-/// What stands behind a byte that must come.
+/// What follows a byte that must come.
 fn after_byte(byte: u8, text: &[u8]) -> Option<&[u8]>
     ensures { option_map (λ t. t.now) result ≡ after_byte byte text.now }
 {

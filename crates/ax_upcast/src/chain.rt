@@ -27,7 +27,7 @@ impl Model for Chain {
 }
 
 impl Chain {
-    /// The chain of these rules. `keeps_limit` tells whether they may form one.
+    /// The chain of these rules. `keeps_limit` says whether they may form one.
     pub fn of(parts: Vec<Upcaster>) -> Chain
         requires { KeepsLimit parts.items }
         ensures { result ≡ parts.items }

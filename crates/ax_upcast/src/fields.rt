@@ -36,7 +36,7 @@ fn put(fields: &mut Vec<Field>, field: Field) -> Result<(), NoMemory>
     }
 }
 
-/// Takes the field of a name out, and answers its value.
+/// Takes the field of a name out, and returns its value.
 fn take(fields: &mut Vec<Field>, name: &Name) -> Option<Value>
     requires { IsTrue (rises field_below fields.old.items) }
     ensures value { result ≡ field_of name.now fields.old.items }
