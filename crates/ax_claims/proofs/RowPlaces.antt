@@ -7,9 +7,9 @@ use Rattle.std.proofs.lemmas.Cmp.{tied_itself}
 use Rattle.std.proofs.lemmas.Bool.Decides.{nat_tests}
 use Rattle.ax_values.specs.Words.{rises, place_where}
 use Rattle.ax_laws.proofs.Tests.{both}
-use Rattle.ax_segments.specs.Segments.{Segment, matches, same_segment, segment_cmp}
+use Rattle.ax_segments.specs.Segments.{Segment, IsSegment, matches, same_segment, segment_cmp}
 use Rattle.ax_segments.specs.Orders.{segment_cmp_total}
-use Rattle.ax_claims.specs.Rows.{TokenRow, AreRows, row_cmp, row_below, row_at, put_row, place_at, place_if}
+use Rattle.ax_claims.specs.Rows.{TokenRow, AreRows, AreSegments, row_cmp, row_below, row_at, put_row, place_at, place_if}
 
 pub rises-above : (x : TokenRow) (xs : List TokenRow) (p : ℕ) (r : TokenRow) → rises row_below (x ∷ xs) ≡ true → slice_get xs p ≡ Some r → x.segment.id + suc p ≤ r.segment.id
 rises-above x [] p r h e = absurd (cc)
@@ -136,10 +136,25 @@ matching-segments h (x ∷ xs) =
     ≡ length (if b then x.segment ∷ filter (λ s. matches s h) (map (λ r. r.segment) xs) else filter (λ s. matches s h) (map (λ r. r.segment) xs)))
     [ true ↦ ap suc (matching-segments h xs) | false ↦ matching-segments h xs ]
 
+abbrev segments-of : List Segment → Type 0
+segments-of [] = Unit {0}
+segments-of (s ∷ ss) = IsSegment s × segments-of ss
+
+to-segments : (xs : List TokenRow) → AreSegments xs → segments-of (map (λ r. r.segment) xs)
+to-segments [] h = tt
+to-segments (x ∷ xs) h = (h.0, to-segments xs h.1)
+
+from-segments : (xs : List TokenRow) → segments-of (map (λ r. r.segment) xs) → AreSegments xs
+from-segments [] h = tt
+from-segments (x ∷ xs) h = (h.0, from-segments xs h.1)
+
+-- it is about the segments alone
+pub same-segments : (ys xs : List TokenRow) → map (λ r. r.segment) ys ≡ map (λ r. r.segment) xs → AreRows xs → AreRows ys
+same-segments ys xs same h = record {
+  order = rises-segments ys ∙ ap (rises below) same ∙ sym (rises-segments xs) ∙ h.order;
+  segments = from-segments ys (subst segments-of (sym same) (to-segments xs h.segments));
+  once = λ k small. matching-segments k ys ∙ ap (λ ss. length (filter (λ s. matches s k) ss)) same ∙ sym (matching-segments k xs) ∙ h.once k small;
+}
+
 pub rows-kept : (y : TokenRow) (xs : List TokenRow) (p : ℕ) (r : TokenRow) → AreRows xs → slice_get xs p ≡ Some r → y.segment ≡ r.segment → AreRows (slice_set xs p y)
-rows-kept y xs p r h e s =
-    let same : map (λ r. r.segment) (slice_set xs p y) ≡ map (λ r. r.segment) xs = segments-kept y xs p r e s in
-    record {
-      order = rises-segments (slice_set xs p y) ∙ ap (rises below) same ∙ sym (rises-segments xs) ∙ h.order;
-      once = λ k small. matching-segments k (slice_set xs p y) ∙ ap (λ ss. length (filter (λ s. matches s k) ss)) same ∙ sym (matching-segments k xs) ∙ h.once k small;
-    }
+rows-kept y xs p r h e s = same-segments (slice_set xs p y) xs (segments-kept y xs p r e s) h

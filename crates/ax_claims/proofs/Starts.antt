@@ -4,9 +4,9 @@ use Rattle.std.specs.Int.{is_power_of_two}
 use lib.Count.{ones}
 use Rattle.std.proofs.lemmas.Bool.Decides.{nat_tests}
 use Rattle.ax_values.specs.Words.{rises}
-use Rattle.ax_segments.specs.Segments.{matches}
+use Rattle.ax_segments.specs.Segments.{matches, max_mask}
 use Rattle.ax_tokens.specs.Tokens.{start}
-use Rattle.ax_claims.specs.Rows.{TokenRow, AreRows, row_below, first_rows, starting}
+use Rattle.ax_claims.specs.Rows.{TokenRow, AreRows, AreSegments, row_below, first_rows, starting}
 
 abbrev first_row : ℕ → ℕ → ℕ → TokenRow
 first_row id mask fence = record { segment = record { id = id; mask = mask }; token = start; owner = None; since = 0; fence = fence }
@@ -40,15 +40,23 @@ first-rise (suc (suc n)) id mask fence =
     let lt : nat_lt id (suc id) ≡ true = grind (arith, nat_tests) in
     rw lt (first-rise (suc n) (suc id) mask (suc fence))
 
-are-first : (n fence : ℕ) → AreRows (first_rows (suc n) 0 n fence)
-are-first n fence = record {
+first-segments : (n id mask fence : ℕ) → IsTrue (is_power_of_two (mask + 1)) → mask ≤ max_mask → id + n ≤ suc mask → AreSegments (first_rows n id mask fence)
+first-segments zero id mask fence power few le = tt
+first-segments (suc n) id mask fence power few le = (record { power = power; mask = few; id = omega (arith, le) }, first-segments n (suc id) mask (suc fence) power few (omega (arith, le)))
+
+are-first : (n fence : ℕ) → IsTrue (is_power_of_two (n + 1)) → n ≤ max_mask → AreRows (first_rows (suc n) 0 n fence)
+are-first n fence power few = record {
   order = first-rise (suc n) 0 n fence;
+  segments = first-segments (suc n) 0 n fence power few (omega arith);
   once = λ h small. once-in (suc n) 0 n fence h (omega arith) (let lt : h % (n + 1) < n + 1 = omega arith in omega arith);
 }
 
-pub are-starting : (n fence : ℕ) → 0 < n → AreRows (starting n fence)
-are-starting zero fence some = absurd (omega arith)
-are-starting (suc n) fence some = let e : suc n - 1 ≡ n = omega arith in subst (λ mask. AreRows (first_rows (suc n) 0 mask fence)) (sym e) (are-first n fence)
+pub are-starting : (n fence : ℕ) → 0 < n → IsTrue (is_power_of_two n) → n ≤ 65536 → AreRows (starting n fence)
+are-starting zero fence some power few = absurd (omega arith)
+are-starting (suc n) fence some power few =
+    let e : suc n - 1 ≡ n = omega arith in
+    let is : suc n ≡ n + 1 = omega arith in
+    subst (λ mask. AreRows (first_rows (suc n) 0 mask fence)) (sym e) (are-first n fence (subst (λ m. IsTrue (is_power_of_two m)) is power) (omega (arith, few)))
 
 pub rows-more : (n id mask fence : ℕ) → id < n → first_rows (n - id) id mask (fence + id) ≡ first_row id mask (fence + id) ∷ first_rows (n - (id + 1)) (id + 1) mask (fence + (id + 1))
 rows-more n id mask fence lt =

@@ -1,9 +1,9 @@
 -- Token rows: what a processor keeps of each of its segments.
-use Rattle.std.specs.Prelude.{◌≡◌, ℕ, zero, suc, ◌-◌, ◌^◌, ◌<◌, Bool, List, [], ◌∷◌, length, filter, find, Option, Some, None, IsTrue, nat_lt}
+use Rattle.std.specs.Prelude.{◌≡◌, ℕ, zero, suc, ◌-◌, ◌^◌, ◌<◌, Bool, not, List, [], ◌∷◌, length, filter, find, Option, Some, None, IsTrue, nat_lt}
 use Rattle.std.specs.declared.cmp.Ordering.{Ordering}
 use Rattle.ax_values.specs.Grammar.{Name}
 use Rattle.ax_values.specs.Words.{put_rising, rises, place_where}
-use Rattle.ax_segments.specs.Segments.{Segment, matches, same_segment, segment_cmp}
+use Rattle.ax_segments.specs.Segments.{Segment, IsSegment, matches, same_segment, segment_cmp}
 use Rattle.ax_tokens.specs.Tokens.{Token, start}
 
 -- a segment, how far it is, who claimed it and when, and the fence of its last change of hands
@@ -37,6 +37,10 @@ place_at s rows = place_if (row_at s rows) (place_where (λ r. same_segment r.se
 abbrev pub put_row : TokenRow → List TokenRow → List TokenRow
 put_row = put_rising row_cmp
 
+-- the rows without that of the segment
+abbrev pub remove_row : Segment → List TokenRow → List TokenRow
+remove_row s rows = filter (λ r. not (same_segment r.segment s)) rows
+
 -- the row whose segment matches the hash
 abbrev pub row_serving : ℕ → List TokenRow → Option TokenRow
 row_serving h rows = find (λ r. matches r.segment h) rows
@@ -45,8 +49,13 @@ row_serving h rows = find (λ r. matches r.segment h) rows
 abbrev pub MatchOnce : List TokenRow → Type 0
 MatchOnce rows = (h : ℕ) → h < 2 ^ 32 → length (filter (λ r. matches r.segment h) rows) ≡ 1
 
+abbrev pub AreSegments : List TokenRow → Type 0
+AreSegments [] = Unit {0}
+AreSegments (r ∷ rows) = IsSegment r.segment × AreSegments rows
+
 pub record AreRows (rows : List TokenRow) : Type 0 where
   pub order : IsTrue (rises row_below rows)
+  pub segments : AreSegments rows
   pub once : MatchOnce rows
 
 -- n rows of the segments from id on, which have covered nothing and which nobody owns, with fences from one on

@@ -1,11 +1,14 @@
-ghost use Rattle.std.specs.Prelude.{◌≡◌, ◌+◌, ◌≤◌, ◌^◌, ◌==◌, length, slice_get, IsTrue, IfOk, IfSome};
+ghost use Rattle.std.specs.Prelude.{◌≡◌, ◌+◌, ◌<◌, ◌≤◌, ◌^◌, ◌==◌, length, slice_get, Some, None, IsTrue, IfOk, IfErr, IfSome};
 ghost use Rattle.std.specs.Option.{option_copied};
 ghost use Rattle.std.specs.Int.{is_power_of_two};
 ghost use Rattle.ax_tokens.specs.Nodes.{token_of};
 ghost use Rattle.ax_claims.specs.Rows.{AreRows, row_at, place_at, starting};
-ghost use Rattle.ax_claims.specs.Changes.{claimed, stored, IsChange, is_expired, is_claimed};
+ghost use Rattle.ax_claims.specs.Changes.{claimed, stored, extended, released, split, merge, all_reset, held_check, is_expired, is_claimed, IsChange, IsChanged, IsChangedUnlessMemory};
 
-use crate::{Refused, TokenRow};
+use crate::changes::{
+    first_claimed, merged_token, partner_place, put_halves, put_whole, reset_rows,
+};
+use crate::{ClaimFault, Refused, TokenRow};
 use ax_segments::Segment;
 use ax_tokens::Token;
 use ax_values::{Duplicate, Name, NoMemory, copy_all};
@@ -133,6 +136,112 @@ impl Rows {
         row.since = now;
         Ok(())
     }
+
+    /// Renews the claim of the segment's row at the moment `now`, in milliseconds, where it is held.
+    /// The row is held where it has the fence that is held: without one, NoSegment comes exactly where there is no row and
+    /// NotHeld exactly where there is one; Stale comes exactly where the row is gone or has another fence.
+    pub fn extend(&mut self, segment: Segment, held: Option<u64>, now: u64) -> Result<(), Refused>
+        ensures { IsChanged (extended segment held now self.old) self.old self.new result }
+    {
+        let place = held_place(&self.rows, segment, held)?;
+        self.rows[place].since = now;
+        Ok(())
+    }
+
+    /// Takes the owner of the segment's row away, where it is held, and gives the row this fence. It is refused as `extend`.
+    pub fn release(
+        &mut self,
+        segment: Segment,
+        held: Option<u64>,
+        fence: u64,
+    ) -> Result<(), Refused>
+        ensures { IsChanged (released segment held fence self.old) self.old self.new result }
+    {
+        let place = held_place(&self.rows, segment, held)?;
+        let row = &mut self.rows[place];
+        row.owner = None;
+        row.since = 0;
+        row.fence = fence;
+        Ok(())
+    }
+
+    /// Puts two rows without owner in the place of the segment's row, where it is held: one for each of its halves, the lower
+    /// one with this fence and the upper one with the next. Each hash keeps what is covered for it.
+    /// It is refused as `extend`, and then with MaskFull exactly where the mask is 65,535.
+    pub fn split(
+        &mut self,
+        alloc: Global,
+        segment: Segment,
+        held: Option<u64>,
+        fence: u64,
+    ) -> Result<(), ClaimFault>
+        requires fences { fence + 1 < 2 ^ 64 }
+        ensures { IsChangedUnlessMemory (split segment held fence self.old) self.old self.new result }
+    {
+        let place = held_place(&self.rows, segment, held)?;
+        let Some(halves) = self.rows[place].halves(alloc, fence)? else {
+            return Err(ClaimFault::Refused(Refused::MaskFull));
+        };
+        put_halves(&mut self.rows, place, halves)?;
+        Ok(())
+    }
+
+    /// Puts one row without owner, with this fence, in the place of the segment's row, where it is held, and of its partner's.
+    /// Both tokens stay, as the halves of one. It is refused as `extend`, and then with Alone exactly where the segment is the
+    /// root or its partner has no row, and then with Claimed exactly where the partner's row has another owner than the actor,
+    /// whose claim was made or extended at most 10,000 ms before `now`.
+    pub fn merge(
+        &mut self,
+        alloc: Global,
+        segment: Segment,
+        held: Option<u64>,
+        actor: &Name,
+        now: u64,
+        fence: u64,
+    ) -> Result<(), ClaimFault>
+        ensures { IsChangedUnlessMemory (merge segment held actor.now now fence self.old) self.old self.new result }
+    {
+        let place = held_place(&self.rows, segment, held)?;
+        let Some(partner) = partner_place(&self.rows, segment) else {
+            return Err(ClaimFault::Refused(Refused::Alone));
+        };
+        let other = partner.place;
+        if self.rows[other].is_claimed(actor, now) {
+            let place = other as u32;
+            return Err(ClaimFault::Refused(Refused::Claimed { place }));
+        }
+        let token = merged_token(alloc, &self.rows[place], &self.rows[other])?;
+        let whole = TokenRow::free(partner.whole, token, fence);
+        if place < other {
+            put_whole(&mut self.rows, place, other, whole);
+        } else {
+            put_whole(&mut self.rows, other, place, whole);
+        }
+        Ok(())
+    }
+
+    /// Gives each row to the actor at the moment `now`, in milliseconds, with fences from this one on, and lets each token begin
+    /// anew: it covers nothing, and what any of its halves had covered is read again as a replay.
+    /// Claimed comes exactly where a row has another owner whose claim was made or extended at most 10,000 ms ago, with the
+    /// place of the first such.
+    pub fn reset_all(
+        &mut self,
+        alloc: Global,
+        actor: &Name,
+        now: u64,
+        fence: u64,
+    ) -> Result<(), ClaimFault>
+        requires fences { fence + length self.old ≤ 2 ^ 64 }
+        ensures { IsChangedUnlessMemory (all_reset actor.now now fence self.old) self.old self.new result }
+    {
+        if let Some(place) = first_claimed(&self.rows, actor, now) {
+            let first = place as u32;
+            return Err(ClaimFault::Refused(Refused::Claimed { place: first }));
+        }
+        let rows = reset_rows(alloc, &self.rows, actor, now, fence)?;
+        self.rows = rows;
+        Ok(())
+    }
 }
 
 impl Duplicate for Rows {
@@ -162,8 +271,50 @@ impl TokenRow {
     }
 }
 
+impl TokenRow {
+    /// Why a change of the row under the fence that is held is refused, if it is.
+    fn refused(&self, held: Option<u64>) -> Option<Refused>
+        ensures { result ≡ held_check held (Some self.now) }
+    {
+        let Some(held) = held else {
+            return Some(Refused::NotHeld);
+        };
+        if self.fence == held {
+            return None;
+        }
+        let found = Some(self.fence);
+        Some(Refused::Stale { held, found })
+    }
+}
+
+/// The place of the segment's row, where it has the fence that is held.
+fn held_place(rows: &[TokenRow], segment: Segment, held: Option<u64>) -> Result<usize, Refused>
+    requires { AreRows rows.now }
+    ensures place { IfOk result (λ place. place_at segment rows.now ≡ Some place) }
+    ensures held { IfOk result (λ _. held_check held (row_at segment rows.now) ≡ None) }
+    ensures refused { IfErr result (λ refused. held_check held (row_at segment rows.now) ≡ Some refused) }
+{
+    let Some(place) = place_of(rows, segment) else {
+        return Err(refused_without(held));
+    };
+    match rows[place].refused(held) {
+        Some(refused) => Err(refused),
+        None => Ok(place),
+    }
+}
+
+/// Why a change of a row that is not there is refused.
+fn refused_without(held: Option<u64>) -> Refused
+    ensures { held_check held None ≡ Some result }
+{
+    match held {
+        Some(held) => Refused::Stale { held, found: None },
+        None => Refused::NoSegment,
+    }
+}
+
 /// The place of the segment's row.
-fn place_of(rows: &[TokenRow], segment: Segment) -> Option<usize>
+pub(crate) fn place_of(rows: &[TokenRow], segment: Segment) -> Option<usize>
     requires { AreRows rows.now }
     ensures value { result ≡ place_at segment rows.now }
     ensures low { IfSome result (λ place. place ≤ segment.id) }

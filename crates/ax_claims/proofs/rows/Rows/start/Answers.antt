@@ -13,4 +13,4 @@ invariant_of-result c =
     let none : c.args.segments - c.loop-id.id ≡ 0 = omega (arith, c.loop-id-test.false) in
     subst AreRows
     (sym c.loop-id.invariant ∙ ap (λ n. c.loop-id.rows.items ++ first_rows n c.loop-id.id (c.args.segments - 1) (c.args.fence + c.loop-id.id)) none ∙ append-nil c.loop-id.rows.items)
-    (are-starting c.args.segments c.args.fence (some-segments c.args.segments c.requires.power))
+    (are-starting c.args.segments c.args.fence (some-segments c.args.segments c.requires.power) c.requires.power c.requires.few)
