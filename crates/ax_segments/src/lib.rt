@@ -4,5 +4,5 @@
 mod hash;
 mod segment;
 
-pub use hash::hash_of;
+pub use hash::{hash_in, hash_of};
 pub use segment::{MaskFull, Segment, root};

@@ -1,38 +1,75 @@
--- A desk whose reservation changes.
-use Rattle.std.specs.Prelude.{ℕ, ◌+◌, ◌≤◌, Option, None, IfSome, slice_set}
-use Rattle.std.proofs.Common.{◌∙◌, arith}
-use Rattle.std.proofs.lemmas.List.{length-set}
-use Rattle.ax_state.specs.Every.{count, one}
+-- A desk of which one part changes.
+use Rattle.std.specs.Prelude.{◌≡◌, ℕ, ◌+◌, ◌≤◌, List, [], ◌∷◌, Option, Some, None, IfSome, slice_get, slice_set}
+use Rattle.std.specs.List.{AllByRecursion}
+use Rattle.std.proofs.Common.{refl, ap, sym, ◌∙◌, subst, arith}
+use Rattle.ax_laws.proofs.Options.{some-is}
+use Rattle.ax_claims.specs.Rows.{TokenRow, row_at}
+use Rattle.ax_state.specs.Every.{AllFrom, count, one, option_or}
 use Rattle.ax_state.specs.Setting.{name_at}
-use Rattle.ax_state.specs.State.{State, Desk, Reservation, desk_at, empty_desk, with_desk}
-use Rattle.ax_state.specs.WellFormed.{IsWellFormed, AreReserved, HoldsCells, IsDeskOf, IsBatchIn, holds_cell}
-use Rattle.ax_state.proofs.Lists.{All-set, All-at, AllFrom-set, AllFrom-at, count-set}
+use Rattle.ax_state.specs.State.{State, ProcessorState, Held, Reservation, Batch, Desk, desk_at, processor_state_at, empty_processor, actor_name, with_desk}
+use Rattle.ax_state.specs.WellFormed.{IsWellFormed, AreReserved, HoldsCells, IsProcessorState, IsStanding, IsBatchRow, IsBatchAt, IsBatchIn, OwnsAs, holds_cell}
+use Rattle.ax_state.proofs.Lists.{All-got, AllFrom-set, AllFrom-got, count-set}
+use Rattle.ax_state.proofs.RowPuts.{found-row, one-place, rows-of}
+use Rattle.ax_state.proofs.Frames.{seat-at, batch-at, same-reservation, kept-desk, place-there, place-at}
 
-abbrev reserving : State → ℕ → Option Reservation → Desk
-reserving m actor o = record (desk_at m actor) { reservation = o }
+-- ---- its reservation
 
 pub kept-reservation : (m : State) (actor : ℕ) (o : Option Reservation) → AreReserved m.cells m.setting.actors (slice_set m.desks actor (record (desk_at m actor) { reservation = o })) → IsWellFormed m
     → IsWellFormed (with_desk actor (record (desk_at m actor) { reservation = o }) m)
-kept-reservation m actor o reserved h = record {
-  sheet = h.sheet;
-  log = h.log;
-  clock = h.clock;
-  reserved = reserved;
-  processors = h.processors;
-  declared = h.declared;
-  actors = length-set m.desks actor (reserving m actor o) ∙ h.actors;
-  fences = h.fences;
-  desks = AllFrom-set (λ k d. IsDeskOf m.fence m.processor_states (name_at m.setting.actors k) d) 0 m.desks actor (reserving m actor o) h.desks (λ k e. seat k (AllFrom-at (λ j d. IsDeskOf m.fence m.processor_states (name_at m.setting.actors j) d) 0 m.desks actor empty_desk h.desks (λ j. record { held = tt; batch = tt }) k e));
-  batches = All-set (λ d. IfSome d.batch (IsBatchIn m.setting m.cells m.processor_states)) m.desks actor (reserving m actor o) h.batches (All-at (λ d. IfSome d.batch (IsBatchIn m.setting m.cells m.processor_states)) m.desks actor empty_desk h.batches tt);
-}
-  where
-    seat : (k : ℕ) → IsDeskOf m.fence m.processor_states (name_at m.setting.actors k) (desk_at m actor) → IsDeskOf m.fence m.processor_states (name_at m.setting.actors k) (reserving m actor o)
-    seat k h = record { held = h.held; batch = h.batch }
+kept-reservation m actor o reserved h =
+    let seat = seat-at m actor h in
+    kept-desk m actor (record (desk_at m actor) { reservation = o }) (record { reserved = reserved; seat = record { held = seat.held; batch = seat.batch }; batch = batch-at m actor h }) h
 
 -- a reservation may always be given up
 pub kept-unreserved : (m : State) (actor : ℕ) → IsWellFormed m → IsWellFormed (with_desk actor (record (desk_at m actor) { reservation = None }) m)
 kept-unreserved m actor h = kept-reservation m actor None (record {
-  each = AllFrom-set (λ k d. HoldsCells m.cells (name_at m.setting.actors k) d) 0 m.desks actor (reserving m actor None) h.reserved.each (λ k e. tt);
-  apart = λ i. let more : count (λ d. holds_cell i d.reservation) (slice_set m.desks actor (reserving m actor None)) ≤ count (λ d. holds_cell i d.reservation) m.desks + one (holds_cell i (reserving m actor None).reservation) = count-set (λ d. holds_cell i d.reservation) m.desks actor (reserving m actor None) in
+  each = AllFrom-set (λ k d. HoldsCells m.cells (name_at m.setting.actors k) d) 0 m.desks actor desk h.reserved.each (λ k e. tt);
+  apart = λ i. let more : count (λ d. holds_cell i d.reservation) (slice_set m.desks actor desk) ≤ count (λ d. holds_cell i d.reservation) m.desks + one (holds_cell i desk.reservation) = count-set (λ d. holds_cell i d.reservation) m.desks actor desk in
       let was : count (λ d. holds_cell i d.reservation) m.desks ≤ 1 = h.reserved.apart i in omega arith;
 }) h
+  where
+    desk : Desk
+    desk = record (desk_at m actor) { reservation = None }
+
+-- ---- its batch
+
+pub kept-batch : (m : State) (actor : ℕ) (o : Option Batch) → IfSome o (λ b. (b.fence ≤ m.fence) × OwnsAs (actor_name m actor) m.processor_states b.processor b.segment b.fence) → IfSome o (IsBatchIn m.setting m.cells m.processor_states)
+    → IsWellFormed m → IsWellFormed (with_desk actor (record (desk_at m actor) { batch = o }) m)
+kept-batch m actor o owned stands h =
+    kept-desk m actor (record (desk_at m actor) { batch = o }) (record { reserved = same-reservation m actor (record (desk_at m actor) { batch = o }) refl h; seat = record { held = (seat-at m actor h).held; batch = owned }; batch = stands }) h
+
+-- where a batch stands at the row of its segment, it stands among all rows
+pub batch-here : (m : State) (b : Batch) (r : TokenRow) → row_at b.segment (processor_state_at m b.processor).rows ≡ Some r → IsStanding m.setting m.cells b r.token → IsWellFormed m → AllFrom (IsBatchAt m.setting m.cells b) 0 m.processor_states
+batch-here m b r found stands h = AllFrom-got (IsProcessorState m.setting m.cells) (IsBatchAt m.setting m.cells b) 0 m.processor_states (λ k x at was of. here k x at (let z : 0 + k ≡ k = omega arith in sym z ∙ of)) h.processors
+  where
+    rows : List TokenRow
+    rows = (processor_state_at m b.processor).rows
+
+    place : (k : ℕ) × (slice_get rows k ≡ Some r) × (r.segment ≡ b.segment)
+    place = found-row b.segment rows r found
+
+    each : AllByRecursion (IsBatchRow m.setting m.cells b) rows
+    each = All-got (λ q. Unit {0}) (IsBatchRow m.setting m.cells b) rows
+        (λ j q at u seg fence. (let one : j ≡ place.0 = one-place rows j place.0 q r (rows-of rows (place-at m b.processor (place-there m b.processor b.segment r found) h).parts).order at place.1 (seg ∙ sym place.2) in
+        let is : Some q ≡ Some r = sym at ∙ ap (slice_get rows) one ∙ place.1 in subst (λ (x : TokenRow). IsStanding m.setting m.cells b x.token) (sym (some-is q r is)) stands))
+        (all-rows rows)
+      where
+        all-rows : (xs : List TokenRow) → AllByRecursion (λ q. Unit {0}) xs
+        all-rows [] = tt
+        all-rows (x ∷ xs) = (tt, all-rows xs)
+
+    here : (k : ℕ) (x : ProcessorState) → slice_get m.processor_states k ≡ Some x → k ≡ b.processor → AllByRecursion (IsBatchRow m.setting m.cells b) x.rows
+    here k x at of =
+        let is : processor_state_at m b.processor ≡ x = ap (λ (i : ℕ). processor_state_at m i) (sym of) ∙ ap (option_or empty_processor) at in
+        subst (λ (y : ProcessorState). AllByRecursion (IsBatchRow m.setting m.cells b) y.rows) is each
+
+-- a batch may always be given up
+pub kept-emptied : (m : State) (actor : ℕ) → IsWellFormed m → IsWellFormed (with_desk actor (record (desk_at m actor) { batch = None }) m)
+kept-emptied m actor h = kept-batch m actor None tt tt h
+
+-- ---- the fences that it holds
+
+pub kept-held : (m : State) (actor : ℕ) (hs : List Held) → AllByRecursion (λ x. (x.fence ≤ m.fence) × OwnsAs (actor_name m actor) m.processor_states x.processor x.segment x.fence) hs
+    → IsWellFormed m → IsWellFormed (with_desk actor (record (desk_at m actor) { held = hs }) m)
+kept-held m actor hs owned h =
+    kept-desk m actor (record (desk_at m actor) { held = hs }) (record { reserved = same-reservation m actor (record (desk_at m actor) { held = hs }) refl h; seat = record { held = owned; batch = (seat-at m actor h).batch }; batch = batch-at m actor h }) h

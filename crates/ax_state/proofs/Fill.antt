@@ -1,5 +1,5 @@
 -- Reserved cells that become events of one aggregate: what is read off the covered events stays.
-use Rattle.std.specs.Prelude.{◌≡◌, ℕ, zero, suc, ◌+◌, ◌<◌, ◌≤◌, ◌⊎◌, Bool, true, false, not, IsTrue, IfSome, List, [], ◌∷◌, ◌++◌, map, length, filter, take, find, Option, Some, None, slice_get, if◌then◌else◌}
+use Rattle.std.specs.Prelude.{◌≡◌, ℕ, zero, suc, ◌+◌, ◌<◌, ◌≤◌, ◌⊎◌, Bool, true, false, not, List, [], ◌∷◌, ◌++◌, map, length, filter, take, Option, Some, None, slice_get, if◌then◌else◌}
 use Rattle.std.specs.List.{AllByRecursion, list_all}
 use Rattle.std.proofs.Common.{refl, ap, sym, ◌∙◌, subst, inl, inr, ⊎_elim, arith}
 use Rattle.std.proofs.lemmas.List.{map-append}
@@ -7,16 +7,8 @@ use Rattle.std.proofs.lemmas.Slice.Eq.{bytes_eq-Decides}
 use Rattle.ax_values.specs.Grammar.{Name}
 use Rattle.ax_values.specs.Words.{same_name}
 use Rattle.ax_log.specs.Log.{Stored, events_from, events, is_of, stream_in, length_of, is_reserved, is_settled, option_is, put_cells}
-use Rattle.ax_segments.specs.Segments.{hash_of, matches, is_upper, half_mask}
-use Rattle.ax_tokens.specs.Plain.{Plain}
-use Rattle.ax_tokens.specs.Tokens.{Token, plain, merged, replay, half, covers_here, covers, parts}
-use Rattle.ax_state.specs.Every.{AllFrom}
-use Rattle.ax_state.specs.Setting.{Setting}
-use Rattle.ax_state.specs.State.{ProcessorState, Batch}
-use Rattle.ax_state.specs.Positions.{first_letter, drops_of}
-use Rattle.ax_state.specs.Portions.{Portion, portions, put_portion, portion_cmp, portion_covers, covered_by, covered_events}
-use Rattle.ax_state.specs.WellFormed.{IsPlainOver, IsTokenOver, AreTokens, CoverPrefix, HasRows, IsProcessorState, IsStanding, IsBatchRow, IsBatchAt, IsBatchIn, is_prefix_test, reserved_by}
-use Rattle.ax_state.proofs.Lists.{All-map, All-put}
+use Rattle.ax_state.specs.WellFormed.{PassPrefix, is_prefix_test, reserved_by}
+use Rattle.ax_state.proofs.Growth.{IsGrowth}
 use Rattle.ax_values.specs.declared.cell.Cell.{Cell}
 use Rattle.ax_values.specs.declared.record.Record.{Record}
 use Rattle.ax_laws.proofs.Lists.{none-left}
@@ -56,47 +48,21 @@ fills-filter N t k (c ∷ cs) (d ∷ ds) f new =
     step-filter N t k c d cs ds f.0 (λ is e n. let at : k + 0 ≡ k = omega arith in subst (λ (i : ℕ). t (record { index = i; record_of = e }) ≡ false) at (new 0 is e n))
     (fills-filter N t (suc k) cs ds f.1 (λ i is e n. let at : k + suc i ≡ suc k + i = omega arith in subst (λ (j : ℕ). t (record { index = j; record_of = e }) ≡ false) at (new (suc i) is e n)))
 
--- ---- no token covers a reserved cell
-
-All-left : {A : Type 0} (P : A → Type 0) (xs ys : List A) → AllByRecursion P (xs ++ ys) → AllByRecursion P xs
-All-left P [] ys h = tt
-All-left P (x ∷ xs) ys h = (h.0, All-left P xs ys h.1)
-
-All-right : {A : Type 0} (P : A → Type 0) (xs ys : List A) → AllByRecursion P (xs ++ ys) → AllByRecursion P ys
-All-right P [] ys h = h
-All-right P (x ∷ xs) ys h = All-right P xs ys h.1
-
-covers-settled : (cells : List Cell) (t : Token) (mask h i : ℕ) → AllByRecursion (IsPlainOver cells) (parts t) → covers t mask h i ≡ true → is_settled cells i ≡ true
-covers-settled cells (plain p) mask h i all e = all.0.settled i e
-covers-settled cells (merged l u) mask h i all e =
-    at (is_upper mask h) e (covers-settled cells l (half_mask mask) h i (All-left (IsPlainOver cells) (parts l) (parts u) all)) (covers-settled cells u (half_mask mask) h i (All-right (IsPlainOver cells) (parts l) (parts u) all))
-  where
-    at : (b : Bool) → covers_here (if b then half u (half_mask mask) h else half l (half_mask mask) h) i ≡ true → (covers l (half_mask mask) h i ≡ true → is_settled cells i ≡ true) → (covers u (half_mask mask) h i ≡ true → is_settled cells i ≡ true)
-        → is_settled cells i ≡ true
-    at true e l u = u e
-    at false e l u = l e
-covers-settled cells (replay r c) mask h i all e = all.1.0.settled i e
+-- ---- what is read off the settled cells
 
 reserved-unsettled : (o : Option Cell) → option_is is_reserved o ≡ true → option_is (λ c. not (is_reserved c)) o ≡ false
 reserved-unsettled None e = refl
 reserved-unsettled (Some c) e = rw e refl
 
-found-covers : (cells : List Cell) (ps : List Portion) (h i : ℕ) → AreTokens cells ps → option_is is_reserved (slice_get cells i) ≡ true → covered_by ps h i ≡ false
-found-covers cells [] h i all e = refl
-found-covers cells (x ∷ xs) h i all e = at (matches x.segment h) (found-covers cells xs h i all.1 e)
-  where
-    here : (b : Bool) → covers x.token x.segment.mask h i ≡ b → b ≡ false
-    here true k = absurd (let s : is_settled cells i ≡ true = covers-settled cells x.token x.segment.mask h i all.0.each k in let u : is_settled cells i ≡ false = reserved-unsettled (slice_get cells i) e in cc)
-    here false k = refl
+-- a test that settled cells alone pass fails at a reserved one
+fails-reserved : (cells : List Cell) (i : ℕ) (b : Bool) → (b ≡ true → is_settled cells i ≡ true) → option_is is_reserved (slice_get cells i) ≡ true → b ≡ false
+fails-reserved cells i false s e = refl
+fails-reserved cells i true s e = absurd (let is : is_settled cells i ≡ true = s refl in let no : is_settled cells i ≡ false = reserved-unsettled (slice_get cells i) e in cc)
 
-    at : (b : Bool) → covered_by xs h i ≡ false → portion_covers h i (if b then Some x else find (λ y. matches y.segment h) xs) ≡ false
-    at true ih = here (covers x.token x.segment.mask h i) refl
-    at false ih = ih
-
--- what is covered stays
-pub fills-covered : (N : Record → Type 0) (cells later : List Cell) (ps : List Portion) → Fills N cells later → AreTokens cells ps → covered_events ps (events later) ≡ covered_events ps (events cells)
-fills-covered N cells later ps f all = fills-filter N (λ e. covered_by ps (hash_of e.record_of.aggregate) e.index) 0 cells later f
-    (λ i is e n. let at : 0 + i ≡ i = omega arith in subst (λ (j : ℕ). covered_by ps (hash_of e.aggregate) j ≡ false) (sym at) (found-covers cells ps (hash_of e.aggregate) i all is))
+fills-filtered : (N : Record → Type 0) (cells later : List Cell) (test : Name → ℕ → Bool) → Fills N cells later → ((a : Name) (i : ℕ) → test a i ≡ true → is_settled cells i ≡ true)
+    → filter (λ e. test e.record_of.aggregate e.index) (events later) ≡ filter (λ e. test e.record_of.aggregate e.index) (events cells)
+fills-filtered N cells later test f s = fills-filter N (λ e. test e.record_of.aggregate e.index) 0 cells later f
+    (λ i is e n. let at : i ≡ 0 + i = omega arith in subst (λ (j : ℕ). test e.aggregate j ≡ false) at (fails-reserved cells i (test e.aggregate i) (s e.aggregate i) is))
 
 -- the streams of the other aggregates stay
 fills-others : (a b : Name) (cells later : List Cell) → ((e : Record) → Own a e → same_name e.aggregate b ≡ false) → Fills (Own a) cells later → stream_in b (events later) ≡ stream_in b (events cells)
@@ -205,11 +171,11 @@ prefix-append [] cs h e = prefix-false cs h
 prefix-append (true ∷ bs) cs h e = prefix-append bs cs h e
 prefix-append (false ∷ bs) cs h e = not-append bs cs h e
 
-uncovered : (cells : List Cell) (ps : List Portion) (h i : ℕ) (rs : List Record) → AreTokens cells ps → Ready cells i (length rs) → AllByRecursion (λ b. b ≡ false) (map (λ e. covered_by ps h e.index) (stored_at i rs))
-uncovered cells ps h i [] all ready = tt
-uncovered cells ps h i (r ∷ rs) all ready = (
-  found-covers cells ps h i all (let at : i + 0 ≡ i = omega arith in subst (λ (j : ℕ). option_is is_reserved (slice_get cells j) ≡ true) at (ready 0 (omega arith))),
-  uncovered cells ps h (suc i) rs all (λ k lt. let at : i + suc k ≡ suc i + k = omega arith in subst (λ (j : ℕ). option_is is_reserved (slice_get cells j) ≡ true) at (ready (suc k) (omega arith))),
+unpassed : (cells : List Cell) (test : ℕ → Bool) (i : ℕ) (rs : List Record) → ((j : ℕ) → test j ≡ true → is_settled cells j ≡ true) → Ready cells i (length rs) → AllByRecursion (λ b. b ≡ false) (map (λ e. test e.index) (stored_at i rs))
+unpassed cells test i [] s ready = tt
+unpassed cells test i (r ∷ rs) s ready = (
+  fails-reserved cells i (test i) (s i) (let at : i + 0 ≡ i = omega arith in subst (λ (j : ℕ). option_is is_reserved (slice_get cells j) ≡ true) at (ready 0 (omega arith))),
+  unpassed cells test (suc i) rs s (λ k lt. let at : i + suc k ≡ suc i + k = omega arith in subst (λ (j : ℕ). option_is is_reserved (slice_get cells j) ≡ true) at (ready (suc k) (omega arith))),
 )
 
 -- what an append fills
@@ -219,21 +185,21 @@ pub record IsFill (a : Name) (i : ℕ) (rs : List Record) (cells : List Cell) : 
   pub within : i ≤ length cells
   pub last : length_of a (take i cells) ≡ length_of a cells
 
-prefix-fills : (a : Name) (i : ℕ) (rs : List Record) (cells : List Cell) (ps : List Portion) → IsFill a i rs cells → AreTokens cells ps → CoverPrefix (events cells) ps → CoverPrefix (events (put_cells i (map Cell.Event rs) cells)) ps
-prefix-fills a i rs cells ps f all h b = at (same_name a b) refl
+prefix-fills : (a : Name) (i : ℕ) (rs : List Record) (cells : List Cell) (test : ℕ → Bool) → IsFill a i rs cells → ((j : ℕ) → test j ≡ true → is_settled cells j ≡ true) → (b : Name) → PassPrefix test (events cells) b → PassPrefix test (events (put_cells i (map Cell.Event rs) cells)) b
+prefix-fills a i rs cells test f s b h = at (same_name a b) refl
   where
     later : List Cell
     later = put_cells i (map Cell.Event rs) cells
 
-    at : (c : Bool) → same_name a b ≡ c → is_prefix_test (map (λ e. covered_by ps (hash_of b) e.index) (stream_in b (events later))) ≡ true
+    at : (c : Bool) → same_name a b ≡ c → is_prefix_test (map (λ e. test e.index) (stream_in b (events later))) ≡ true
     at true e =
         let is : a ≡ b = (bytes_eq-Decides a b).0 e in
-        let s : stream_in b (events later) ≡ stream_in b (events cells) ++ stored_at i rs = subst (λ (x : Name). stream_in x (events later) ≡ stream_in x (events cells) ++ stored_at i rs) is (stream-put a 0 i rs cells f.own f.ready f.within f.last ∙ (let z : 0 + i ≡ i = omega arith in ap (λ (j : ℕ). stream_in a (events cells) ++ stored_at j rs) z)) in
-        rw (s, map-append (λ (x : Stored). covered_by ps (hash_of b) x.index) (stream_in b (events cells)) (stored_at i rs))
-        (prefix-append (map (λ x. covered_by ps (hash_of b) x.index) (stream_in b (events cells))) (map (λ x. covered_by ps (hash_of b) x.index) (stored_at i rs)) (uncovered cells ps (hash_of b) i rs all f.ready) (h b))
-    at false e = rw (fills-others a b cells later (λ x n. ap (λ (y : Name). same_name y b) n ∙ e) (fills-put (Own a) i rs cells f.ready f.own)) (h b)
+        let t : stream_in b (events later) ≡ stream_in b (events cells) ++ stored_at i rs = subst (λ (x : Name). stream_in x (events later) ≡ stream_in x (events cells) ++ stored_at i rs) is (stream-put a 0 i rs cells f.own f.ready f.within f.last ∙ (let z : 0 + i ≡ i = omega arith in ap (λ (j : ℕ). stream_in a (events cells) ++ stored_at j rs) z)) in
+        rw (t, map-append (λ (x : Stored). test x.index) (stream_in b (events cells)) (stored_at i rs))
+        (prefix-append (map (λ x. test x.index) (stream_in b (events cells))) (map (λ x. test x.index) (stored_at i rs)) (unpassed cells test i rs s f.ready) h)
+    at false e = rw (fills-others a b cells later (λ x n. ap (λ (y : Name). same_name y b) n ∙ e) (fills-put (Own a) i rs cells f.ready f.own)) h
 
--- ---- tokens and processors
+-- ---- cells
 
 filled-settled : (N : Record → Type 0) (cells later : List Cell) (i : ℕ) → Fills N cells later → is_settled cells i ≡ true → is_settled later i ≡ true
 filled-settled N [] [] i f h = h
@@ -250,15 +216,20 @@ fills-length N [] (d ∷ ds) f = absurd f
 fills-length N (c ∷ cs) [] f = absurd f
 fills-length N (c ∷ cs) (d ∷ ds) f = ap suc (fills-length N cs ds f.1)
 
-plain-fills : (N : Record → Type 0) (cells later : List Cell) → Fills N cells later → (p : Plain) → IsPlainOver cells p → IsPlainOver later p
-plain-fills N cells later f p h = record {
-  canonical = h.canonical;
-  within = (let l : length later ≡ length cells = fills-length N cells later f in let w : p.next ≤ length cells = h.within in omega arith);
-  settled = λ i e. filled-settled N cells later i f (h.settled i e);
+-- the cells of an append grow
+pub fill-growth : (a : Name) (i : ℕ) (rs : List Record) (cells : List Cell) → IsFill a i rs cells → IsGrowth cells (put_cells i (map Cell.Event rs) cells)
+fill-growth a i rs cells f = record {
+  settled = λ j e. filled-settled (Own a) cells later j g e;
+  longer = (let l : length later ≡ length cells = fills-length (Own a) cells later g in omega arith);
+  prefixes = λ test s b h. prefix-fills a i rs cells test f s b h;
+  filtered = λ test s. fills-filtered (Own a) cells later test g s;
 }
+  where
+    later : List Cell
+    later = put_cells i (map Cell.Event rs) cells
 
-token-fills : (N : Record → Type 0) (cells later : List Cell) → Fills N cells later → (mask : ℕ) (t : Token) → IsTokenOver cells mask t → IsTokenOver later mask t
-token-fills N cells later f mask t h = record { each = All-map (IsPlainOver cells) (IsPlainOver later) (plain-fills N cells later f) (parts t) h.each; masks = h.masks; gaps = h.gaps; stays = h.stays }
+    g : Fills (Own a) cells later
+    g = fills-put (Own a) i rs cells f.ready f.own
 
 -- ---- moments
 
@@ -272,60 +243,3 @@ fills-reserved_by N now [] [] f h = tt
 fills-reserved_by N now [] (d ∷ ds) f h = absurd f
 fills-reserved_by N now (c ∷ cs) [] f h = absurd f
 fills-reserved_by N now (c ∷ cs) (d ∷ ds) f h = (step-reserved N now c d f.0 h.0, fills-reserved_by N now cs ds f.1 h.1)
-
--- what holds of a processor
-pub place-fills : (setting : Setting) (a : Name) (i : ℕ) (rs : List Record) (cells : List Cell) → IsFill a i rs cells → (p : ℕ) (processor_state : ProcessorState) → IsProcessorState setting cells p processor_state → IsProcessorState setting (put_cells i (map Cell.Event rs) cells) p processor_state
-place-fills setting a i rs cells f p processor_state h = record {
-  parts = h.parts;
-  tokens = All-map (λ x. IsTokenOver cells x.segment.mask x.token) (λ x. IsTokenOver later x.segment.mask x.token) (λ x. token-fills (Own a) cells later g x.segment.mask x.token) (portions processor_state.rows) h.tokens;
-  folded = record {
-    prefixes = prefix-fills a i rs cells (portions processor_state.rows) f h.tokens h.folded.prefixes;
-    rows = subst (λ (cs : List Stored). HasRows setting p cs (first_letter processor_state) (drops_of processor_state)) (sym (fills-covered (Own a) cells later (portions processor_state.rows) g h.tokens)) h.folded.rows;
-  };
-  gapless = h.gapless;
-  owners = h.owners;
-}
-  where
-    later : List Cell
-    later = put_cells i (map Cell.Event rs) cells
-
-    g : Fills (Own a) cells later
-    g = fills-put (Own a) i rs cells f.ready f.own
-
--- ---- a standing batch
-
-standing-fills : (a : Name) (i : ℕ) (rs : List Record) (cells : List Cell) → IsFill a i rs cells → (ps : List Portion) (b : Batch) (t : Token) → AreTokens cells ps
-    → IsStanding cells ps b t → IsStanding (put_cells i (map Cell.Event rs) cells) ps b t
-standing-fills a i rs cells f ps b t all h = record {
-  old = h.old;
-  new = record {
-    added = h.new.added;
-    bound = h.new.bound;
-    settled = All-map (λ j. IsTrue (is_settled cells j)) (λ j. IsTrue (is_settled later j)) (λ j. filled-settled (Own a) cells later j g) h.new.added h.new.settled;
-    within = h.new.within;
-    new_is = h.new.new_is;
-  };
-  token = token-fills (Own a) cells later g b.segment.mask b.new h.token;
-  prefixes = prefix-fills a i rs cells (put_portion (record { segment = b.segment; token = b.new }) ps) f
-      (All-put (λ x. IsTokenOver cells x.segment.mask x.token) portion_cmp (record { segment = b.segment; token = b.new }) ps all h.token) h.prefixes;
-}
-  where
-    later : List Cell
-    later = put_cells i (map Cell.Event rs) cells
-
-    g : Fills (Own a) cells later
-    g = fills-put (Own a) i rs cells f.ready f.own
-
-batch-at-fills : (setting : Setting) (a : Name) (i : ℕ) (rs : List Record) (cells : List Cell) → IsFill a i rs cells → (b : Batch) (n : ℕ) (processor_states : List ProcessorState) → AllFrom (IsProcessorState setting cells) n processor_states
-    → AllFrom (IsBatchAt cells b) n processor_states → AllFrom (IsBatchAt (put_cells i (map Cell.Event rs) cells) b) n processor_states
-batch-at-fills setting a i rs cells f b n [] p h = tt
-batch-at-fills setting a i rs cells f b n (x ∷ xs) p h = (
-  λ e. All-map (IsBatchRow cells (portions x.rows) b) (IsBatchRow (put_cells i (map Cell.Event rs) cells) (portions x.rows) b)
-      (λ y s seg fence. standing-fills a i rs cells f (portions x.rows) b y.token p.0.tokens (s seg fence)) x.rows (h.0 e),
-  batch-at-fills setting a i rs cells f b (suc n) xs p.1 h.1,
-)
-
-pub batch-fills : (setting : Setting) (a : Name) (i : ℕ) (rs : List Record) (cells : List Cell) → IsFill a i rs cells → (processor_states : List ProcessorState) → AllFrom (IsProcessorState setting cells) 0 processor_states
-    → (o : Option Batch) → IfSome o (IsBatchIn setting cells processor_states) → IfSome o (IsBatchIn setting (put_cells i (map Cell.Event rs) cells) processor_states)
-batch-fills setting a i rs cells f processor_states p None h = tt
-batch-fills setting a i rs cells f processor_states p (Some b) h = record { declared = h.declared; rows = batch-at-fills setting a i rs cells f b 0 processor_states p h.rows }

@@ -9,14 +9,12 @@ use Rattle.ax_log.specs.Log.{Stored, events_from, is_of, length_of, is_reserved,
 use Rattle.ax_log.specs.Order.{AreNumbered, IsReservedRight, IsOrdered, is_small, max_cells}
 use Rattle.ax_log.specs.Answers.{aggregate_of}
 use Rattle.ax_log.proofs.Order.{IsQuiet}
-use Rattle.ax_tokens.specs.Plain.{Plain}
-use Rattle.ax_tokens.specs.Tokens.{Token, parts}
-use Rattle.ax_state.specs.Setting.{Setting, name_at}
-use Rattle.ax_state.specs.State.{State, ProcessorState, Batch, Desk, Reservation, with_cells}
-use Rattle.ax_state.specs.Positions.{first_letter, drops_of}
-use Rattle.ax_state.specs.Portions.{Portion, portions, put_portion}
-use Rattle.ax_state.specs.WellFormed.{IsWellFormed, reserved_by, IsPlainOver, IsTokenOver, IsHeldCell, IsReservation, HoldsCells, IsProcessorState, IsFolded, CoverPrefix, IsStanding, IsBatchRow, IsBatchAt, IsBatchIn}
-use Rattle.ax_state.proofs.Lists.{All-map, AllFrom-map}
+use Rattle.ax_state.specs.Setting.{name_at}
+use Rattle.ax_state.specs.State.{State, Desk, Reservation, with_cells}
+use Rattle.ax_state.specs.WellFormed.{IsWellFormed, PassPrefix, reserved_by, IsHeldCell, IsReservation, HoldsCells}
+use Rattle.ax_state.proofs.Lists.{AllFrom-map}
+use Rattle.ax_state.proofs.Growth.{IsGrowth}
+use Rattle.ax_state.proofs.Frames.{kept-cells}
 use Rattle.ax_values.specs.declared.cell.Cell.{Cell}
 
 abbrev pub Becomes : Cell → Cell → Type 0
@@ -85,6 +83,13 @@ grows-length [] later g = omega arith
 grows-length (c ∷ cs) [] g = absurd g
 grows-length (c ∷ cs) (d ∷ ds) g = let ih : length cs ≤ length ds = grows-length cs ds g.1 in omega arith
 
+-- each event has a cell
+pub events-few : (k : ℕ) (cells : List Cell) → length (events_from k cells) ≤ length cells
+events-few k [] = omega arith
+events-few k (Cell.Event r ∷ cells) = let ih : length (events_from (suc k) cells) ≤ length cells = events-few (suc k) cells in omega arith
+events-few k (Cell.Reserved a s w t ∷ cells) = let ih : length (events_from (suc k) cells) ≤ length cells = events-few (suc k) cells in omega arith
+events-few k (Cell.Void ∷ cells) = let ih : length (events_from (suc k) cells) ≤ length cells = events-few (suc k) cells in omega arith
+
 abbrev Follows : Option Cell → Option Cell → Type 0
 Follows None d = Unit {0}
 Follows (Some c) None = ⊥
@@ -101,7 +106,7 @@ get-none [] i e = omega arith
 get-none (x ∷ xs) zero e = absurd (cc)
 get-none (x ∷ xs) (suc i) e = let ih : length xs ≤ i = get-none xs i e in omega arith
 
--- ---- tokens
+-- ---- settled cells
 
 becomes-settled : (c d : Cell) → Becomes c d → not (is_reserved c) ≡ true → not (is_reserved d) ≡ true
 becomes-settled (Cell.Reserved a s w t) d b h = absurd (cc)
@@ -116,64 +121,13 @@ settled-at (Some c) (Some d) f h = becomes-settled c d f h
 grows-settled : (cells later : List Cell) (i : ℕ) → Grows cells later → IsTrue (is_settled cells i) → IsTrue (is_settled later i)
 grows-settled cells later i g h = settled-at (slice_get cells i) (slice_get later i) (grows-at cells later i g) h
 
-plain-grows : (cells later : List Cell) → Grows cells later → (p : Plain) → IsPlainOver cells p → IsPlainOver later p
-plain-grows cells later g p h = record {
-  canonical = h.canonical;
-  within = (let le : length cells ≤ length later = grows-length cells later g in let w : p.next ≤ length cells = h.within in omega arith);
-  settled = λ i e. grows-settled cells later i g (h.settled i e);
+pub grows-growth : (cells later : List Cell) → Grows cells later → IsGrowth cells later
+grows-growth cells later g = record {
+  settled = λ i e. grows-settled cells later i g e;
+  longer = grows-length cells later g;
+  prefixes = λ test s a h. subst (λ (es : List Stored). PassPrefix test es a) (sym (grows-events 0 cells later g)) h;
+  filtered = λ test s. ap (filter (λ e. test e.record_of.aggregate e.index)) (grows-events 0 cells later g);
 }
-
-token-grows : (cells later : List Cell) → Grows cells later → (mask : ℕ) (t : Token) → IsTokenOver cells mask t → IsTokenOver later mask t
-token-grows cells later g mask t h = record {
-  each = All-map (IsPlainOver cells) (IsPlainOver later) (plain-grows cells later g) (parts t) h.each;
-  masks = h.masks;
-  gaps = h.gaps;
-  stays = h.stays;
-}
-
--- ---- processors
-
-place-grows : (setting : Setting) (cells later : List Cell) → Grows cells later → (p : ℕ) (processor_state : ProcessorState) → IsProcessorState setting cells p processor_state → IsProcessorState setting later p processor_state
-place-grows setting cells later g p processor_state h = record {
-  parts = h.parts;
-  tokens = All-map (λ x. IsTokenOver cells x.segment.mask x.token) (λ x. IsTokenOver later x.segment.mask x.token) (λ x. token-grows cells later g x.segment.mask x.token) (portions processor_state.rows) h.tokens;
-  folded = subst (λ (es : List Stored). IsFolded setting p es (portions processor_state.rows) (first_letter processor_state) (drops_of processor_state)) (sym (grows-events 0 cells later g)) h.folded;
-  gapless = h.gapless;
-  owners = h.owners;
-}
-
--- ---- batches
-
-standing-grows : (cells later : List Cell) → Grows cells later → (ps : List Portion) (b : Batch) (t : Token) → IsStanding cells ps b t → IsStanding later ps b t
-standing-grows cells later g ps b t h = record {
-  old = h.old;
-  new = record {
-    added = h.new.added;
-    bound = h.new.bound;
-    settled = All-map (λ i. IsTrue (is_settled cells i)) (λ i. IsTrue (is_settled later i)) (λ i. grows-settled cells later i g) h.new.added h.new.settled;
-    within = h.new.within;
-    new_is = h.new.new_is;
-  };
-  token = token-grows cells later g b.segment.mask b.new h.token;
-  prefixes = subst (λ (es : List Stored). CoverPrefix es (put_portion (record { segment = b.segment; token = b.new }) ps)) (sym (grows-events 0 cells later g)) h.prefixes;
-}
-
-batch-at-grows : (cells later : List Cell) → Grows cells later → (b : Batch) (q : ℕ) (processor_state : ProcessorState) → IsBatchAt cells b q processor_state → IsBatchAt later b q processor_state
-batch-at-grows cells later g b q processor_state h e =
-    All-map (IsBatchRow cells (portions processor_state.rows) b) (IsBatchRow later (portions processor_state.rows) b) (λ r k same fence. standing-grows cells later g (portions processor_state.rows) b r.token (k same fence)) processor_state.rows (h e)
-
-batch-grows : (setting : Setting) (cells later : List Cell) → Grows cells later → (processor_states : List ProcessorState) (b : Batch) → IsBatchIn setting cells processor_states b → IsBatchIn setting later processor_states b
-batch-grows setting cells later g processor_states b h = record {
-  declared = h.declared;
-  rows = AllFrom-map (IsBatchAt cells b) (IsBatchAt later b) (batch-at-grows cells later g b) 0 processor_states h.rows;
-}
-
-batches-grow : (setting : Setting) (cells later : List Cell) → Grows cells later → (processor_states : List ProcessorState) (d : Desk) → IfSome d.batch (IsBatchIn setting cells processor_states) → IfSome d.batch (IsBatchIn setting later processor_states)
-batches-grow setting cells later g processor_states d h = at d.batch h
-  where
-    at : (o : Option Batch) → IfSome o (IsBatchIn setting cells processor_states) → IfSome o (IsBatchIn setting later processor_states)
-    at None h = tt
-    at (Some b) h = batch-grows setting cells later g processor_states b h
 
 -- ---- reservations
 
@@ -266,18 +220,9 @@ ordered-grows cells later g size fresh h = record {
 -- ---- the whole
 
 pub kept-grown : (m : State) (later : List Cell) → Grows m.cells later → IsOrdered later → AllByRecursion (reserved_by m.clock) later → IsWellFormed m → IsWellFormed (with_cells later m)
-kept-grown m later g ordered moments h = record {
-  sheet = h.sheet;
+kept-grown m later g ordered moments h = kept-cells m later (record {
+  growth = grows-growth m.cells later g;
   log = ordered;
-  clock = record { limit = h.clock.limit; reserved = moments; kept = h.clock.kept };
-  reserved = record {
-    each = AllFrom-map (λ k d. HoldsCells m.cells (name_at m.setting.actors k) d) (λ k d. HoldsCells later (name_at m.setting.actors k) d) (λ k d. holds-grows m.cells later g (name_at m.setting.actors k) d) 0 m.desks h.reserved.each;
-    apart = h.reserved.apart;
-  };
-  processors = AllFrom-map (IsProcessorState m.setting m.cells) (IsProcessorState m.setting later) (place-grows m.setting m.cells later g) 0 m.processor_states h.processors;
-  declared = h.declared;
-  actors = h.actors;
-  fences = h.fences;
-  desks = h.desks;
-  batches = All-map (λ d. IfSome d.batch (IsBatchIn m.setting m.cells m.processor_states)) (λ d. IfSome d.batch (IsBatchIn m.setting later m.processor_states)) (batches-grow m.setting m.cells later g m.processor_states) m.desks h.batches;
-}
+  reserved = moments;
+  held = AllFrom-map (λ k d. HoldsCells m.cells (name_at m.setting.actors k) d) (λ k d. HoldsCells later (name_at m.setting.actors k) d) (λ k d. holds-grows m.cells later g (name_at m.setting.actors k) d) 0 m.desks h.reserved.each;
+}) h

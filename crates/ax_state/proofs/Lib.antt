@@ -1,7 +1,12 @@
 pub mod Lists
+pub mod RowPuts
+pub mod Coverage
+pub mod Growth
+pub mod Frames
+pub mod Actors
 pub mod Desks
 pub mod Grow
 pub mod Fill
-pub mod RowPuts
+pub mod SegmentCounts
 pub mod Starting
 pub mod Prefixes

@@ -38,6 +38,18 @@ All-filter P t [] h = tt
 All-filter P t (x ∷ xs) h =
     elim (t x) as (λ b. AllByRecursion P (if b then x ∷ filter t xs else filter t xs)) [ true ↦ (h.0, All-filter P t xs h.1) | false ↦ All-filter P t xs h.1 ]
 
+pub All-left : {A : Type 0} (P : A → Type 0) (xs ys : List A) → AllByRecursion P (xs ++ ys) → AllByRecursion P xs
+All-left P [] ys h = tt
+All-left P (x ∷ xs) ys h = (h.0, All-left P xs ys h.1)
+
+pub All-right : {A : Type 0} (P : A → Type 0) (xs ys : List A) → AllByRecursion P (xs ++ ys) → AllByRecursion P ys
+All-right P [] ys h = h
+All-right P (x ∷ xs) ys h = All-right P xs ys h.1
+
+pub All-got : {A : Type 0} (P Q : A → Type 0) (xs : List A) → ((k : ℕ) (x : A) → slice_get xs k ≡ Some x → P x → Q x) → AllByRecursion P xs → AllByRecursion Q xs
+All-got P Q [] f h = tt
+All-got P Q (x ∷ xs) f h = (f 0 x refl h.0, All-got P Q xs (λ k y e j. f (suc k) y e j) h.1)
+
 pub All-append : {A : Type 0} (P : A → Type 0) (xs ys : List A) → AllByRecursion P xs → AllByRecursion P ys → AllByRecursion P (xs ++ ys)
 All-append P [] ys h j = j
 All-append P (x ∷ xs) ys h j = (h.0, All-append P xs ys h.1 j)
@@ -61,7 +73,8 @@ AllFrom-get P n [] p x h e k i = absurd (cc)
 AllFrom-get P n (y ∷ ys) zero x h e k i = let same : n ≡ k = omega arith in let is : y ≡ x = cc in subst₂ P same is h.0
 AllFrom-get P n (y ∷ ys) (suc p) x h e k i = AllFrom-get P (suc n) ys p x h.1 e k (omega arith)
 
-AllFrom-got : {A : Type 0} (P Q : ℕ → A → Type 0) (n : ℕ) (xs : List A) → ((k : ℕ) (x : A) → slice_get xs k ≡ Some x → P (n + k) x → Q (n + k) x) → AllFrom P n xs → AllFrom Q n xs
+-- what follows at each place
+pub AllFrom-got : {A : Type 0} (P Q : ℕ → A → Type 0) (n : ℕ) (xs : List A) → ((k : ℕ) (x : A) → slice_get xs k ≡ Some x → P (n + k) x → Q (n + k) x) → AllFrom P n xs → AllFrom Q n xs
 AllFrom-got P Q n [] f h = tt
 AllFrom-got P Q n (x ∷ xs) f h = (
   (let at : n + 0 ≡ n = omega arith in subst (λ (i : ℕ). Q i x) at (f 0 x refl (subst (λ (i : ℕ). P i x) (sym at) h.0))),

@@ -1,11 +1,12 @@
 -- Where the covered events of each aggregate are a prefix of its stream, positions and rows can be read off the covered events alone.
-use Rattle.std.proofs.Common.{◌≡◌, ℕ, Bool, true, false, not, List, [], ◌∷◌, ◌++◌, map, length, filter, flat_map, take, drop, find, Some, if◌then◌else◌, refl, sym, ap, ◌∙◌}
+use Rattle.std.proofs.Common.{◌≡◌, ℕ, Bool, true, false, not, List, [], ◌∷◌, ◌++◌, map, length, filter, flat_map, take, drop, find, Option, Some, if◌then◌else◌, refl, sym, ap, ◌∙◌}
 use Rattle.std.proofs.lemmas.Grind.{flat_map-append}
 use Rattle.std.proofs.lemmas.List.{take-append-drop}
 use Rattle.std.specs.List.{list_all}
 use Rattle.std.proofs.lemmas.Slice.Eq.{bytes_eq-Decides}
 use Rattle.ax_values.specs.Grammar.{Name}
-use Rattle.ax_segments.specs.Segments.{hash_of, matches}
+use Rattle.ax_segments.specs.Segments.{matches}
+use Rattle.ax_segments.specs.Sequences.{hash_in}
 use Rattle.ax_log.specs.Log.{Stored, events, is_of, stream_in}
 use Rattle.ax_rules.specs.Rules.{Rules, fold_items}
 use Rattle.ax_upcast.specs.Upcast.{upcast}
@@ -44,25 +45,25 @@ covered-portions (r ∷ rows) h i = at (matches r.segment h) (covered-portions r
     at true ih = refl
     at false ih = ih
 
-abbrev pub covers_for : List Portion → Name → Stored → Bool
-covers_for ps a e = covered_by ps (hash_of a) e.index
+abbrev pub covers_for : Option Name → List Portion → Name → Stored → Bool
+covers_for whole ps a e = covered_by ps (hash_in whole a) e.index
 
 abbrev keep_if : Stored → List Stored → Bool → List Stored
 keep_if e es b = if b then e ∷ es else es
 
 -- the covered events of an aggregate are those of its stream
-pub covered-stream : (ps : List Portion) (a : Name) (es : List Stored) → stream_in a (covered_events ps es) ≡ filter (covers_for ps a) (stream_in a es)
-covered-stream ps a [] = refl
-covered-stream ps a (e ∷ es) = by (is_of a e) refl (covered_by ps (hash_of e.record_of.aggregate) e.index) refl (covered-stream ps a es)
+pub covered-stream : (whole : Option Name) (ps : List Portion) (a : Name) (es : List Stored) → stream_in a (covered_events whole ps es) ≡ filter (covers_for whole ps a) (stream_in a es)
+covered-stream whole ps a [] = refl
+covered-stream whole ps a (e ∷ es) = by (is_of a e) refl (covered_by ps (hash_in whole e.record_of.aggregate) e.index) refl (covered-stream whole ps a es)
   where
-    own : is_of a e ≡ true → covered_by ps (hash_of e.record_of.aggregate) e.index ≡ covers_for ps a e
-    own k = ap (λ b. covered_by ps (hash_of b) e.index) ((bytes_eq-Decides e.record_of.aggregate a).0 k)
+    own : is_of a e ≡ true → covered_by ps (hash_in whole e.record_of.aggregate) e.index ≡ covers_for whole ps a e
+    own k = ap (λ b. covered_by ps (hash_in whole b) e.index) ((bytes_eq-Decides e.record_of.aggregate a).0 k)
 
-    by : (p : Bool) → is_of a e ≡ p → (q : Bool) → covered_by ps (hash_of e.record_of.aggregate) e.index ≡ q → stream_in a (covered_events ps es) ≡ filter (covers_for ps a) (stream_in a es)
-        → stream_in a (if q then e ∷ covered_events ps es else covered_events ps es) ≡ filter (covers_for ps a) (if p then e ∷ stream_in a es else stream_in a es)
-    by true k true c ih = ap (keep_if e (stream_in a (covered_events ps es))) k ∙ ap (λ xs. e ∷ xs) ih ∙ sym (ap (keep_if e (filter (covers_for ps a) (stream_in a es))) (sym (own k) ∙ c))
-    by true k false c ih = ih ∙ sym (ap (keep_if e (filter (covers_for ps a) (stream_in a es))) (sym (own k) ∙ c))
-    by false k true c ih = ap (keep_if e (stream_in a (covered_events ps es))) k ∙ ih
+    by : (p : Bool) → is_of a e ≡ p → (q : Bool) → covered_by ps (hash_in whole e.record_of.aggregate) e.index ≡ q → stream_in a (covered_events whole ps es) ≡ filter (covers_for whole ps a) (stream_in a es)
+        → stream_in a (if q then e ∷ covered_events whole ps es else covered_events whole ps es) ≡ filter (covers_for whole ps a) (if p then e ∷ stream_in a es else stream_in a es)
+    by true k true c ih = ap (keep_if e (stream_in a (covered_events whole ps es))) k ∙ ap (λ xs. e ∷ xs) ih ∙ sym (ap (keep_if e (filter (covers_for whole ps a) (stream_in a es))) (sym (own k) ∙ c))
+    by true k false c ih = ih ∙ sym (ap (keep_if e (filter (covers_for whole ps a) (stream_in a es))) (sym (own k) ∙ c))
+    by false k true c ih = ap (keep_if e (stream_in a (covered_events whole ps es))) k ∙ ih
     by false k false c ih = ih
 
 -- ---- items
@@ -106,18 +107,18 @@ same-filter t u [] h = refl
 same-filter t u (x ∷ xs) h = ap (λ b. if b then x ∷ filter t xs else filter t xs) (h x) ∙ ap (λ ys. if u x then x ∷ ys else ys) (same-filter t u xs h)
 
 -- the covered items are the items of the covered events
-pub covered-items : (chain : List Upcaster) (cells : List Cell) (rows : List TokenRow) (a : Name) → covered_items_in chain cells rows a ≡ items_in chain (covered_events (portions rows) (events cells)) a
-covered-items chain cells rows a =
-    same-filter (λ x. covered_in rows (hash_of a) x.index) (λ x. covered_by (portions rows) (hash_of a) x.index) (items_of chain a cells) (λ x. covered-portions rows (hash_of a) x.index)
-    ∙ filter-items chain (λ i. covered_by (portions rows) (hash_of a) i) (stream_in a (events cells))
-    ∙ ap (flat_map (placed_items chain)) (sym (covered-stream (portions rows) a (events cells)))
+pub covered-items : (whole : Option Name) (chain : List Upcaster) (cells : List Cell) (rows : List TokenRow) (a : Name) → covered_items_in whole chain cells rows a ≡ items_in chain (covered_events whole (portions rows) (events cells)) a
+covered-items whole chain cells rows a =
+    same-filter (λ x. covered_in rows (hash_in whole a) x.index) (λ x. covered_by (portions rows) (hash_in whole a) x.index) (items_of chain a cells) (λ x. covered-portions rows (hash_in whole a) x.index)
+    ∙ filter-items chain (λ i. covered_by (portions rows) (hash_in whole a) i) (stream_in a (events cells))
+    ∙ ap (flat_map (placed_items chain)) (sym (covered-stream whole (portions rows) a (events cells)))
 
 -- and they stand in front of the others
-pub items-prefix : (chain : List Upcaster) (es : List Stored) (ps : List Portion) (a : Name) → CoverPrefix es ps → (rest : List Placed) × (items_in chain es a ≡ items_in chain (covered_events ps es) a ++ rest)
-items-prefix chain es ps a h =
+pub items-prefix : (whole : Option Name) (chain : List Upcaster) (es : List Stored) (ps : List Portion) (a : Name) → CoverPrefix whole es ps → (rest : List Placed) × (items_in chain es a ≡ items_in chain (covered_events whole ps es) a ++ rest)
+items-prefix whole chain es ps a h =
     let s : List Stored = stream_in a es in
-    let n : ℕ = length (filter (covers_for ps a) s) in
-    let front : stream_in a (covered_events ps es) ≡ take n s = covered-stream ps a es ∙ passing-prefix (covers_for ps a) s (h a) in (
+    let n : ℕ = length (filter (covers_for whole ps a) s) in
+    let front : stream_in a (covered_events whole ps es) ≡ take n s = covered-stream whole ps a es ∙ passing-prefix (covers_for whole ps a) s (h a) in (
       flat_map (placed_items chain) (drop n s),
       ap (flat_map (placed_items chain)) (sym (take-append-drop n s)) ∙ flat_map-append (placed_items chain) (take n s) (drop n s) ∙ ap (λ es. flat_map (placed_items chain) es ++ flat_map (placed_items chain) (drop n s)) (sym front),
     )
@@ -129,18 +130,18 @@ take-length (x ∷ xs) = ap (λ zs. x ∷ zs) (take-length xs)
 -- ---- the law
 
 -- the position that is counted in all items is that by the covered events
-pub same-position : (chain : List Upcaster) (cells : List Cell) (processor_state : ProcessorState) (a : Name) → position_in chain cells processor_state a ≡ position_by chain (covered_events (portions processor_state.rows) (events cells)) (first_letter processor_state a) a
-same-position chain cells processor_state a = ap length (covered-items chain cells processor_state.rows a)
+pub same-position : (whole : Option Name) (chain : List Upcaster) (cells : List Cell) (processor_state : ProcessorState) (a : Name) → position_in whole chain cells processor_state a ≡ position_by chain (covered_events whole (portions processor_state.rows) (events cells)) (first_letter whole processor_state a) a
+same-position whole chain cells processor_state a = ap length (covered-items whole chain cells processor_state.rows a)
 
 -- the row that is folded from a prefix of all items is that by the covered events
-pub same-row : (rules : Rules) (chain : List Upcaster) (cells : List Cell) (processor_state : ProcessorState) (a : Name) → CoverPrefix (events cells) (portions processor_state.rows)
-    → row_in rules chain cells processor_state a ≡ row_by rules chain (covered_events (portions processor_state.rows) (events cells)) (first_letter processor_state a) (drops_of processor_state) a
-same-row rules chain cells processor_state a h =
-    ap (λ n. fold_items rules (plain_items (undropped (drops_of processor_state) (take n (items_of chain a cells))))) (same-position chain cells processor_state a)
+pub same-row : (whole : Option Name) (rules : Rules) (chain : List Upcaster) (cells : List Cell) (processor_state : ProcessorState) (a : Name) → CoverPrefix whole (events cells) (portions processor_state.rows)
+    → row_in whole rules chain cells processor_state a ≡ row_by rules chain (covered_events whole (portions processor_state.rows) (events cells)) (first_letter whole processor_state a) (drops_of processor_state) a
+same-row whole rules chain cells processor_state a h =
+    ap (λ n. fold_items rules (plain_items (undropped (drops_of processor_state) (take n (items_of chain a cells))))) (same-position whole chain cells processor_state a)
     ∙ ap (λ xs. fold_items rules (plain_items (undropped (drops_of processor_state) xs))) (ap (take (length covered)) split.1 ∙ take-front covered split.0 ∙ sym (take-length covered))
   where
     covered : List Placed
-    covered = items_in chain (covered_events (portions processor_state.rows) (events cells)) a
+    covered = items_in chain (covered_events whole (portions processor_state.rows) (events cells)) a
 
     split : (rest : List Placed) × (items_in chain (events cells) a ≡ covered ++ rest)
-    split = items-prefix chain (events cells) (portions processor_state.rows) a h
+    split = items-prefix whole chain (events cells) (portions processor_state.rows) a h

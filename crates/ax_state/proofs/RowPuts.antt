@@ -1,24 +1,29 @@
 -- A row put in the place of that of its segment: what is read off segments and tokens, and how often a fence stands.
-use Rattle.std.specs.Prelude.{◌≡◌, ℕ, zero, suc, ◌+◌, ◌<◌, ◌≤◌, ◌==◌, ◌&&◌, Bool, true, false, List, [], ◌∷◌, Some, slice_get, slice_set, nat_lt, if◌then◌else◌}
+use Rattle.std.specs.Prelude.{◌≡◌, ℕ, zero, suc, ◌+◌, ◌<◌, ◌≤◌, ◌==◌, ◌&&◌, Bool, true, false, List, [], ◌∷◌, length, filter, Some, slice_get, slice_set, nat_lt, if◌then◌else◌}
 use Rattle.std.specs.List.{AllByRecursion}
 use Rattle.std.proofs.Common.{refl, ap, sym, ◌∙◌, subst, arith}
 use Rattle.std.proofs.lemmas.Bool.Decides.{nat_tests}
+use Rattle.std.proofs.lemmas.List.{map-set}
 use Rattle.ax_values.specs.Words.{rises}
-use Rattle.ax_segments.specs.Segments.{Segment, same_segment}
-use Rattle.ax_claims.specs.Rows.{TokenRow, row_at, put_row, row_cmp, row_below}
-use Rattle.ax_claims.proofs.RowPlaces.{put-here, same-segment}
+use Rattle.ax_laws.proofs.Tests.{both}
+use Rattle.ax_segments.specs.Segments.{Segment, IsSegment, matches, same_segment}
+use Rattle.ax_claims.specs.Rows.{TokenRow, AreRows, row_at, put_row, row_below}
+use Rattle.ax_claims.proofs.RowPlaces.{put-here, rows-kept, rises-above, same-segment}
 use Rattle.ax_state.specs.Every.{count, one}
 use Rattle.ax_state.specs.State.{ProcessorState}
 use Rattle.ax_state.specs.Portions.{Portion, portion_of, portions}
 use Rattle.ax_state.specs.WellFormed.{AreParts, IsFencedProcessor, fence_count}
-use Rattle.ax_state.proofs.Lists.{All-map, count-put, count-none}
+use Rattle.ax_state.proofs.Lists.{All-map, All-set, All-get, count-none}
 
--- ---- portions
+-- ---- rows and their portions
 
-portions-set : (rows : List TokenRow) (p : ℕ) (r n : TokenRow) → slice_get rows p ≡ Some r → portion_of n ≡ portion_of r → portions (slice_set rows p n) ≡ portions rows
-portions-set [] p r n e same = absurd (cc)
-portions-set (x ∷ xs) zero r n e same = let is : x ≡ r = cc in ap (λ y. y ∷ portions xs) (same ∙ ap portion_of (sym is))
-portions-set (x ∷ xs) (suc p) r n e same = ap (λ ys. portion_of x ∷ ys) (portions-set xs p r n e same)
+pub All-portions : (P : Portion → Type 0) (rows : List TokenRow) → AllByRecursion (λ r. P (portion_of r)) rows → AllByRecursion P (portions rows)
+All-portions P [] h = tt
+All-portions P (r ∷ rows) h = (h.0, All-portions P rows h.1)
+
+pub All-rows : (P : Portion → Type 0) (rows : List TokenRow) → AllByRecursion P (portions rows) → AllByRecursion (λ r. P (portion_of r)) rows
+All-rows P [] h = tt
+All-rows P (r ∷ rows) h = (h.0, All-rows P rows h.1)
 
 abbrev below : Portion → Portion → Bool
 below x y = nat_lt x.segment.id y.segment.id
@@ -27,6 +32,39 @@ rises-portions : (rows : List TokenRow) → rises row_below rows ≡ rises below
 rises-portions [] = refl
 rises-portions (x ∷ []) = refl
 rises-portions (x ∷ y ∷ rows) = ap (λ b. row_below x y && b) (rises-portions (y ∷ rows))
+
+once-portions : (h : ℕ) (rows : List TokenRow) → length (filter (λ x. matches x.segment h) (portions rows)) ≡ length (filter (λ r. matches r.segment h) rows)
+once-portions h [] = refl
+once-portions h (r ∷ rows) =
+    elim (matches r.segment h) as (λ b. length (if b then portion_of r ∷ filter (λ x. matches x.segment h) (portions rows) else filter (λ x. matches x.segment h) (portions rows))
+    ≡ length (if b then r ∷ filter (λ r. matches r.segment h) rows else filter (λ r. matches r.segment h) rows))
+    [ true ↦ ap suc (once-portions h rows) | false ↦ once-portions h rows ]
+
+pub parts-of : (rows : List TokenRow) → AllByRecursion (λ r. IsSegment r.segment) rows → AreRows rows → AreParts (portions rows)
+parts-of rows each h = record {
+  each = All-portions (λ x. IsSegment x.segment) rows each;
+  order = sym (rises-portions rows) ∙ h.order;
+  once = λ k small. once-portions k rows ∙ h.once k small;
+}
+
+-- the rows of portions
+pub rows-of : (rows : List TokenRow) → AreParts (portions rows) → AreRows rows
+rows-of rows h = record { order = rises-portions rows ∙ h.order; once = λ k small. sym (once-portions k rows) ∙ h.once k small }
+
+-- ids rise, and are at most the largest mask
+few-from : (n : ℕ) (x : Portion) (xs : List Portion) → n ≤ x.segment.id → AllByRecursion (λ y. IsSegment y.segment) (x ∷ xs) → rises below (x ∷ xs) ≡ true → n + length (x ∷ xs) ≤ 65536
+few-from n x [] le each up = let id : x.segment.id ≤ x.segment.mask = each.0.id in let mask : x.segment.mask ≤ 65535 = each.0.mask in omega arith
+few-from n x (y ∷ ys) le each up =
+    let k = both (below x y) (rises below (y ∷ ys)) up in
+    let above : x.segment.id < y.segment.id = grind (arith, nat_tests, k.0) in
+    let ih : suc n + length (y ∷ ys) ≤ 65536 = few-from (suc n) y ys (omega arith) each.1 k.1 in omega arith
+
+-- a processor has at most as many segments as there are ids
+pub few-parts : (ps : List Portion) → AreParts ps → length ps ≤ 65536
+few-parts [] h = omega arith
+few-parts (x ∷ xs) h = let k : 0 + length (x ∷ xs) ≤ 65536 = few-from 0 x xs (omega arith) h.each h.order in omega arith
+
+-- ---- a row of a segment
 
 -- the place of a row that is found, and its segment
 pub found-row : (s : Segment) (rows : List TokenRow) (r : TokenRow) → row_at s rows ≡ Some r → (p : ℕ) × (slice_get rows p ≡ Some r) × (r.segment ≡ s)
@@ -38,34 +76,74 @@ found-row s (x ∷ xs) r e = at (same_segment x.segment s) refl e (λ k. found-r
     at true t e again = let is : x ≡ r = cc in (0, e, subst (λ y. y.segment ≡ s) is (same-segment x.segment s t))
     at false t e again = let f = again e in (suc f.0, f.1, f.2)
 
--- where the token is the same, nothing changes
-pub portions-put : (s : Segment) (rows : List TokenRow) (r n : TokenRow) → AreParts (portions rows) → row_at s rows ≡ Some r → portion_of n ≡ portion_of r → portions (put_row n rows) ≡ portions rows
-portions-put s rows r n h e same =
-    let f = found-row s rows r e in
-    ap portions (put-here n rows f.0 r (rises-portions rows ∙ h.order) f.1 (ap (λ x. x.segment) same)) ∙ portions-set rows f.0 r n f.1 same
+-- two rows of one segment are one
+pub one-place : (rows : List TokenRow) (j k : ℕ) (r q : TokenRow) → rises row_below rows ≡ true → slice_get rows j ≡ Some r → slice_get rows k ≡ Some q → r.segment ≡ q.segment → j ≡ k
+one-place [] j k r q h e f s = absurd (cc)
+one-place (x ∷ xs) zero zero r q h e f s = refl
+one-place (x ∷ xs) zero (suc k) r q h e f s =
+    let a : x.segment.id + suc k ≤ q.segment.id = rises-above x xs k q h f in
+    let is : x ≡ r = cc in let same : x.segment.id ≡ q.segment.id = ap (λ r. r.segment.id) is ∙ ap (λ t. t.id) s in absurd (omega arith)
+one-place (x ∷ xs) (suc j) zero r q h e f s =
+    let a : x.segment.id + suc j ≤ r.segment.id = rises-above x xs j r h e in
+    let is : x ≡ q = cc in let same : r.segment.id ≡ x.segment.id = ap (λ t. t.id) s ∙ ap (λ r. r.segment.id) (sym is) in absurd (omega arith)
+one-place (x ∷ xs) (suc j) (suc k) r q h e f s = ap suc (one-place xs j k r q (rest x xs h) e f s)
+  where
+    rest : (x : TokenRow) (xs : List TokenRow) → rises row_below (x ∷ xs) ≡ true → rises row_below xs ≡ true
+    rest x [] h = refl
+    rest x (z ∷ zs) h = (both (row_below x z) (rises row_below (z ∷ zs)) h).1
+
+-- ---- a row put in the place of that of its segment
+
+module _ (rows : List TokenRow) (k : ℕ) (r n : TokenRow) (parts : AreParts (portions rows)) (at : slice_get rows k ≡ Some r) (same : n.segment ≡ r.segment) where
+  pub put-set : put_row n rows ≡ slice_set rows k n
+  put-set = put-here n rows k r (rows-of rows parts).order at same
+
+  pub put-all : (P : TokenRow → Type 0) → AllByRecursion P rows → P n → AllByRecursion P (put_row n rows)
+  put-all P all p = subst (AllByRecursion P) (sym put-set) (All-set P rows k n all p)
+
+  pub put-portions : (P : Portion → Type 0) → AllByRecursion P (portions rows) → P (portion_of n) → AllByRecursion P (portions (put_row n rows))
+  put-portions P all p = All-portions P (put_row n rows) (put-all (λ x. P (portion_of x)) (All-rows P rows all) p)
+
+  pub put-parts : AreParts (portions (put_row n rows))
+  put-parts =
+      let each : AllByRecursion (λ x. IsSegment x.segment) rows = All-rows (λ x. IsSegment x.segment) rows parts.each in
+      parts-of (put_row n rows) (put-all (λ x. IsSegment x.segment) each (subst IsSegment (sym same) (All-get (λ x. IsSegment x.segment) rows k r each at)))
+      (subst AreRows (sym put-set) (rows-kept n rows k r (rows-of rows parts) at same))
+
+  -- where the token is the same, nothing changes
+  pub put-same : n.token ≡ r.token → portions (put_row n rows) ≡ portions rows
+  put-same token = ap portions put-set ∙ map-set portion_of rows k n ∙ unchanged rows k at
+    where
+      is : portion_of n ≡ portion_of r
+      is = ap (λ s. record { segment = s; token = n.token }) same ∙ ap (λ t. record { segment = r.segment; token = t }) token
+
+      unchanged : (xs : List TokenRow) (k : ℕ) → slice_get xs k ≡ Some r → slice_set (portions xs) k (portion_of n) ≡ portions xs
+      unchanged [] k e = absurd (cc)
+      unchanged (x ∷ xs) zero e = let here : x ≡ r = cc in ap (λ y. y ∷ portions xs) (is ∙ ap portion_of (sym here))
+      unchanged (x ∷ xs) (suc k) e = ap (λ ys. portion_of x ∷ ys) (unchanged xs k e)
+
+-- the same of a row that is found
+pub portions-put : (s : Segment) (rows : List TokenRow) (r n : TokenRow) → AreParts (portions rows) → row_at s rows ≡ Some r → n.segment ≡ r.segment → n.token ≡ r.token → portions (put_row n rows) ≡ portions rows
+portions-put s rows r n h e same token = let f = found-row s rows r e in put-same rows f.0 r n h f.1 same token
 
 -- ---- fences
 
-fence_count-set : (f : ℕ) (ss : List ProcessorState) (p : ℕ) (s n : ProcessorState) (d : ℕ) → slice_get ss p ≡ Some s → count (λ r. r.fence == f) n.rows ≤ count (λ r. r.fence == f) s.rows + d
+-- a processor's rows that add d of a fence add so many to all
+pub fence_count-set : (f : ℕ) (ss : List ProcessorState) (p : ℕ) (s n : ProcessorState) (d : ℕ) → slice_get ss p ≡ Some s → count (λ r. r.fence == f) n.rows ≤ count (λ r. r.fence == f) s.rows + d
     → fence_count f (slice_set ss p n) ≤ fence_count f ss + d
 fence_count-set f [] p s n d e h = absurd (cc)
 fence_count-set f (x ∷ xs) zero s n d e h = let is : x ≡ s = cc in rw is (omega arith)
 fence_count-set f (x ∷ xs) (suc p) s n d e h = let ih : fence_count f (slice_set xs p n) ≤ fence_count f xs + d = fence_count-set f xs p s n d e h in omega arith
 
--- a row that is put adds its own fence at most
-pub fence_count-put : (f : ℕ) (ss : List ProcessorState) (p : ℕ) (s : ProcessorState) (row : TokenRow) → slice_get ss p ≡ Some s
-    → fence_count f (slice_set ss p (record s { rows = put_row row s.rows })) ≤ fence_count f ss + one (row.fence == f)
-fence_count-put f ss p s row e = fence_count-set f ss p s (record s { rows = put_row row s.rows }) (one (row.fence == f)) e (count-put (λ r. r.fence == f) row_cmp row s.rows)
-
-not-next : (f g : ℕ) → g ≤ f → (g == suc f) ≡ false
-not-next f g h = grind (arith, nat_tests)
+not-above : (fence f g : ℕ) → fence < f → g ≤ fence → (g == f) ≡ false
+not-above fence f g lt le = grind (arith, nat_tests)
 
 -- no row has a fence above the counter
-pub fence_count-next : (fence : ℕ) (ss : List ProcessorState) → AllByRecursion (IsFencedProcessor fence) ss → fence_count (suc fence) ss ≡ 0
-fence_count-next fence [] h = refl
-fence_count-next fence (s ∷ ss) h =
-    let rows : count (λ r. r.fence == suc fence) s.rows ≡ 0 = count-none (λ r. r.fence == suc fence) s.rows (All-map (λ r. (0 < r.fence) × (r.fence ≤ fence)) (λ r. (r.fence == suc fence) ≡ false) (λ r k. not-next fence r.fence k.1) s.rows h.0) in
-    let rest : fence_count (suc fence) ss ≡ 0 = fence_count-next fence ss h.1 in omega arith
+pub fence_count-above : (fence f : ℕ) (ss : List ProcessorState) → fence < f → AllByRecursion (IsFencedProcessor fence) ss → fence_count f ss ≡ 0
+fence_count-above fence f [] lt h = refl
+fence_count-above fence f (s ∷ ss) lt h =
+    let rows : count (λ r. r.fence == f) s.rows ≡ 0 = count-none (λ r. r.fence == f) s.rows (All-map (λ r. (0 < r.fence) × (r.fence ≤ fence)) (λ r. (r.fence == f) ≡ false) (λ r k. not-above fence f r.fence lt k.1) s.rows h.0) in
+    let rest : fence_count f ss ≡ 0 = fence_count-above fence f ss lt h.1 in omega arith
 
-pub fenced-later : (fence : ℕ) (s : ProcessorState) → IsFencedProcessor fence s → IsFencedProcessor (suc fence) s
-fenced-later fence s h = All-map (λ r. (0 < r.fence) × (r.fence ≤ fence)) (λ r. (0 < r.fence) × (r.fence ≤ suc fence)) (λ r k. (k.0, (let le : r.fence ≤ fence = k.1 in omega arith))) s.rows h
+pub fenced-later : (fence later : ℕ) (s : ProcessorState) → fence ≤ later → IsFencedProcessor fence s → IsFencedProcessor later s
+fenced-later fence later s le h = All-map (λ r. (0 < r.fence) × (r.fence ≤ fence)) (λ r. (0 < r.fence) × (r.fence ≤ later)) (λ r k. (k.0, (let most : r.fence ≤ fence = k.1 in omega arith))) s.rows h

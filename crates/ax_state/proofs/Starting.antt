@@ -1,104 +1,72 @@
 -- The starting state is well formed.
-use Rattle.std.proofs.Common.{◌≡◌, ℕ, zero, suc, ◌+◌, ◌-◌, ◌<◌, ◌≤◌, ◌==◌, ◌&&◌, ◌||◌, Bool, true, false, IsTrue, IfSome, List, [], ◌∷◌, map, length, filter, if◌then◌else◌, refl, ap, ◌∙◌, arith, nat_lt}
+use Rattle.std.proofs.Common.{◌≡◌, ℕ, zero, suc, ◌+◌, ◌-◌, ◌<◌, ◌≤◌, ◌==◌, Bool, true, false, IsTrue, IfSome, List, [], ◌∷◌, map, length, refl, ap, subst, arith, nat_lt}
+use Rattle.std.specs.Int.{is_power_of_two}
 use Rattle.std.specs.List.{AllByRecursion, list_all}
 use Rattle.std.proofs.lemmas.Bool.Decides.{nat_tests}
 use Rattle.ax_values.specs.Grammar.{Name}
-use Rattle.ax_values.specs.Words.{rises}
 use Rattle.ax_laws.proofs.Tests.{both}
-use Rattle.ax_segments.specs.Segments.{matches, max_mask}
+use Rattle.ax_segments.specs.Segments.{IsSegment, max_mask}
 use Rattle.ax_tokens.specs.Plain.{nothing}
 use Rattle.ax_sheet.specs.Declarations.{is_segment_count, Processor}
-use Rattle.ax_claims.specs.Rows.{TokenRow, AreRows, row_below, first_rows, starting}
-use Rattle.ax_claims.proofs.Starts.{are-starting}
+use Rattle.ax_claims.specs.Rows.{TokenRow, first_rows, starting}
+use Rattle.ax_claims.proofs.Starts.{are-starting, some-segments}
 use Rattle.ax_state.specs.Every.{AllFrom, count, one}
 use Rattle.ax_state.specs.Setting.{Setting, IsSetting, name_at}
 use Rattle.ax_state.specs.State.{Desk, empty_desk, first_processors, row_count, start}
-use Rattle.ax_state.specs.Portions.{portions, portion_of}
-use Rattle.ax_state.specs.WellFormed.{IsWellFormed, AreCommands, AreParts, AreTokens, IsPlainOver, IsTokenOver, IsProcessorState, IsProcessorBy, IsFencedProcessor, IsDeskOf, IsBatchIn, HoldsCells, IsOwnedRight, holds_cell, fence_count, is_gapless}
-
--- ---- portions of rows
-
-below-portions : (rows : List TokenRow) → rises row_below rows ≡ true → rises (λ x y. nat_lt x.segment.id y.segment.id) (portions rows) ≡ true
-below-portions [] h = refl
-below-portions (r ∷ []) h = refl
-below-portions (r ∷ s ∷ rows) h =
-    let p = both (row_below r s) (rises row_below (s ∷ rows)) h in
-    ap (λ b. b && rises (λ x y. nat_lt x.segment.id y.segment.id) (portions (s ∷ rows))) p.0 ∙ below-portions (s ∷ rows) p.1
-
-once-portions : (h : ℕ) (rows : List TokenRow) → length (filter (λ x. matches x.segment h) (portions rows)) ≡ length (filter (λ r. matches r.segment h) rows)
-once-portions h [] = refl
-once-portions h (r ∷ rows) =
-    elim (matches r.segment h) as (λ b. length (if b then portion_of r ∷ filter (λ x. matches x.segment h) (portions rows) else filter (λ x. matches x.segment h) (portions rows))
-    ≡ length (if b then r ∷ filter (λ r. matches r.segment h) rows else filter (λ r. matches r.segment h) rows))
-    [ true ↦ ap suc (once-portions h rows) | false ↦ once-portions h rows ]
-
-pub parts-of : (rows : List TokenRow) → AreRows rows → AreParts (portions rows)
-parts-of rows h = record { order = below-portions rows h.order; once = λ k small. once-portions k rows ∙ h.once k small }
+use Rattle.ax_state.specs.WellFormed.{IsWellFormed, AreCommands, IsPlainOver, IsTokenOver, IsProcessorState, IsProcessorBy, IsFencedProcessor, IsDeskOf, IsBatchIn, HoldsCells, IsOwnedRight, holds_cell, fence_count, has_no_gaps, has_no_replay}
+use Rattle.ax_state.proofs.Lists.{All-map}
+use Rattle.ax_state.proofs.RowPuts.{All-portions, parts-of}
+use Rattle.ax_state.proofs.SegmentCounts.{power_of_count, few_of_count}
 
 -- ---- the first rows of a processor
-
-small-count : (n : ℕ) → IsTrue (is_segment_count n) → (0 < n) × (n ≤ 16)
-small-count n h = at (1 == n) refl (2 == n) refl (4 == n) refl (8 == n) refl (16 == n) refl h
-  where
-    at : (a : Bool) → (1 == n) ≡ a → (b : Bool) → (2 == n) ≡ b → (c : Bool) → (4 == n) ≡ c → (d : Bool) → (8 == n) ≡ d → (e : Bool) → (16 == n) ≡ e → (a || (b || (c || (d || (e || false))))) ≡ true → (0 < n) × (n ≤ 16)
-    at true p b q c r d s e t h = let same : 1 ≡ n = grind (arith, nat_tests, p) in (omega arith, omega arith)
-    at false p true q c r d s e t h = let same : 2 ≡ n = grind (arith, nat_tests, q) in (omega arith, omega arith)
-    at false p false q true r d s e t h = let same : 4 ≡ n = grind (arith, nat_tests, r) in (omega arith, omega arith)
-    at false p false q false r true s e t h = let same : 8 ≡ n = grind (arith, nat_tests, s) in (omega arith, omega arith)
-    at false p false q false r false s true t h = let same : 16 ≡ n = grind (arith, nat_tests, t) in (omega arith, omega arith)
-    at false p false q false r false s false t h = absurd (cc)
 
 plain-over : IsPlainOver [] nothing
 plain-over = record { canonical = refl; within = omega arith; settled = λ i e. grind (arith, nat_tests, e) }
 
 -- what holds of each of the first rows
 pub record IsFirst (mask fence past : ℕ) (r : TokenRow) : Type 0 where
+  pub segment : IsSegment r.segment
   pub token : IsTokenOver [] r.segment.mask r.token
-  pub gapless : IsTrue (is_gapless r.token)
+  pub gaps : IsTrue (has_no_gaps r.token)
+  pub replays : IsTrue (has_no_replay r.token)
   pub since : r.since ≤ 0
   pub owner : IsOwnedRight r
   pub least : fence ≤ r.fence
   pub most : r.fence < past
 
-are-first : (n id mask fence least past : ℕ) → mask ≤ max_mask → least ≤ fence → fence + n ≤ past → AllByRecursion (IsFirst mask least past) (first_rows n id mask fence)
-are-first zero id mask fence least past m l p = tt
-are-first (suc n) id mask fence least past m l p = (
+are-first : (n id mask fence least past : ℕ) → IsTrue (is_power_of_two (mask + 1)) → mask ≤ max_mask → id + n ≤ mask + 1 → least ≤ fence → fence + n ≤ past → AllByRecursion (IsFirst mask least past) (first_rows n id mask fence)
+are-first zero id mask fence least past power m in_mask l p = tt
+are-first (suc n) id mask fence least past power m in_mask l p = (
   record {
+    segment = record { power = power; mask = m; id = (omega arith) };
     token = record { each = (plain-over, tt); masks = grind (arith, nat_tests, m); gaps = refl; stays = refl };
-    gapless = refl;
+    gaps = refl;
+    replays = refl;
     since = omega arith;
     owner = λ e. refl;
     least = l;
     most = omega arith;
   },
-  are-first n (suc id) mask (suc fence) least past m (omega arith) (omega arith),
+  are-first n (suc id) mask (suc fence) least past power m (omega arith) (omega arith) (omega arith),
 )
 
-rows-first : (n fence past : ℕ) → n ≤ 16 → fence + n ≤ past → AllByRecursion (IsFirst (n - 1) fence past) (starting n fence)
-rows-first n fence past small p = are-first n 0 (n - 1) fence fence past (omega arith) (omega arith) p
-
-each : {A : Type 0} (P Q : A → Type 0) → ((x : A) → P x → Q x) → (xs : List A) → AllByRecursion P xs → AllByRecursion Q xs
-each P Q f [] h = tt
-each P Q f (x ∷ xs) h = (f x h.0, each P Q f xs h.1)
-
-tokens-first : (mask fence past : ℕ) (rows : List TokenRow) → AllByRecursion (IsFirst mask fence past) rows → AreTokens [] (portions rows)
-tokens-first mask fence past [] h = tt
-tokens-first mask fence past (r ∷ rows) h = (h.0.token, tokens-first mask fence past rows h.1)
-
-gapless-first : (mask fence past : ℕ) (rows : List TokenRow) → AllByRecursion (IsFirst mask fence past) rows → AllByRecursion (λ x. IsTrue (is_gapless x.token)) (portions rows)
-gapless-first mask fence past [] h = tt
-gapless-first mask fence past (r ∷ rows) h = (h.0.gapless, gapless-first mask fence past rows h.1)
+rows-first : (n fence past : ℕ) → IsTrue (is_segment_count n) → fence + n ≤ past → AllByRecursion (IsFirst (n - 1) fence past) (starting n fence)
+rows-first n fence past h p =
+    let some : 0 < n = some-segments n (power_of_count n h) in
+    let few : n ≤ 16 = few_of_count n h in
+    let one_more : n ≡ (n - 1) + 1 = omega arith in
+    are-first n 0 (n - 1) fence fence past (subst (λ (k : ℕ). IsTrue (is_power_of_two k)) one_more (power_of_count n h)) (omega arith) (omega arith) (omega arith) p
 
 place-first : (setting : Setting) (p n fence : ℕ) → IsTrue (is_segment_count n) → IsProcessorState setting [] p (record { rows = starting n fence })
 place-first setting p n fence h =
-    let small : (0 < n) × (n ≤ 16) = small-count n h in
-    let rows : AllByRecursion (IsFirst (n - 1) fence (fence + n)) (starting n fence) = rows-first n fence (fence + n) small.1 (omega arith) in
+    let rows : AllByRecursion (IsFirst (n - 1) fence (fence + n)) (starting n fence) = rows-first n fence (fence + n) h (omega arith) in
     record {
-      parts = parts-of (starting n fence) (are-starting n fence small.0);
-      tokens = tokens-first (n - 1) fence (fence + n) (starting n fence) rows;
+      parts = parts-of (starting n fence) (All-map (IsFirst (n - 1) fence (fence + n)) (λ r. IsSegment r.segment) (λ r f. f.segment) (starting n fence) rows) (are-starting n fence (some-segments n (power_of_count n h)));
+      tokens = All-portions (λ x. IsTokenOver [] x.segment.mask x.token) (starting n fence) (All-map (IsFirst (n - 1) fence (fence + n)) (λ r. IsTokenOver [] r.segment.mask r.token) (λ r f. f.token) (starting n fence) rows);
       folded = record { prefixes = λ a. refl; rows = λ e a. refl };
-      gapless = λ e. gapless-first (n - 1) fence (fence + n) (starting n fence) rows;
-      owners = each (IsFirst (n - 1) fence (fence + n)) IsOwnedRight (λ r f. f.owner) (starting n fence) rows;
+      gaps = λ e. All-portions (λ x. IsTrue (has_no_gaps x.token)) (starting n fence) (All-map (IsFirst (n - 1) fence (fence + n)) (λ r. IsTrue (has_no_gaps r.token)) (λ r f. f.gaps) (starting n fence) rows);
+      replays = λ e. All-portions (λ x. IsTrue (has_no_replay x.token)) (starting n fence) (All-map (IsFirst (n - 1) fence (fence + n)) (λ r. IsTrue (has_no_replay r.token)) (λ r f. f.replays) (starting n fence) rows);
+      owners = All-map (IsFirst (n - 1) fence (fence + n)) IsOwnedRight (λ r f. f.owner) (starting n fence) rows;
     }
 
 -- ---- the processor_states
@@ -116,17 +84,14 @@ processor_states-by : (qs : List Processor) (fence : ℕ) → Counted qs → All
 processor_states-by [] fence h = tt
 processor_states-by (q ∷ qs) fence h =
     let k = both (is_segment_count q.segments) (list_all (λ q. is_segment_count q.segments) qs) h in
-    let small = small-count q.segments k.0 in (
-      each (IsFirst (q.segments - 1) fence (fence + q.segments)) (λ r. r.since ≤ 0) (λ r f. f.since) (starting q.segments fence) (rows-first q.segments fence (fence + q.segments) small.1 (omega arith)),
-      processor_states-by qs (fence + q.segments) k.1,
-    )
+    (All-map (IsFirst (q.segments - 1) fence (fence + q.segments)) (λ r. r.since ≤ 0) (λ r f. f.since) (starting q.segments fence) (rows-first q.segments fence (fence + q.segments) k.0 (omega arith)), processor_states-by qs (fence + q.segments) k.1)
 
 processor_states-fenced : (qs : List Processor) (fence most : ℕ) → Counted qs → 0 < fence → fence + row_count qs ≤ suc most → AllByRecursion (IsFencedProcessor most) (first_processors qs fence)
 processor_states-fenced [] fence most h pos le = tt
 processor_states-fenced (q ∷ qs) fence most h pos le =
     let k = both (is_segment_count q.segments) (list_all (λ q. is_segment_count q.segments) qs) h in
-    let small = small-count q.segments k.0 in (
-      each (IsFirst (q.segments - 1) fence (fence + q.segments)) (λ r. (0 < r.fence) × (r.fence ≤ most)) (λ r f. (let a : fence ≤ r.fence = f.least in omega arith, let b : r.fence < fence + q.segments = f.most in omega arith)) (starting q.segments fence) (rows-first q.segments fence (fence + q.segments) small.1 (omega arith)),
+    let some : 0 < q.segments = some-segments q.segments (power_of_count q.segments k.0) in (
+      All-map (IsFirst (q.segments - 1) fence (fence + q.segments)) (λ r. (0 < r.fence) × (r.fence ≤ most)) (λ r f. (let a : fence ≤ r.fence = f.least in omega arith, let b : r.fence < fence + q.segments = f.most in omega arith)) (starting q.segments fence) (rows-first q.segments fence (fence + q.segments) k.0 (omega arith)),
       processor_states-fenced qs (fence + q.segments) most k.1 (omega arith) (omega arith),
     )
 

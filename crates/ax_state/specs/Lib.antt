@@ -5,4 +5,3 @@ pub mod Positions
 pub mod Portions
 pub mod WellFormed
 pub mod Answer
-pub mod Holding

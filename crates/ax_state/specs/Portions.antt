@@ -1,12 +1,11 @@
 -- What is covered, read off portions (a segment with its token) and events, and no cell, owner or fence.
 use Rattle.std.specs.Prelude.{ℕ, Bool, false, List, map, length, filter, flat_map, take, find, Option, Some, None, Result}
-use Rattle.std.specs.declared.cmp.Ordering.{Ordering}
 use Rattle.ax_values.specs.Grammar.{Name, ItemName}
-use Rattle.ax_values.specs.Words.{put_rising}
 use Rattle.ax_log.specs.Log.{Stored, stream_in}
 use Rattle.ax_rules.specs.Expr.{Row}
 use Rattle.ax_rules.specs.Rules.{Rules, fold_items}
-use Rattle.ax_segments.specs.Segments.{Segment, hash_of, matches, segment_cmp}
+use Rattle.ax_segments.specs.Segments.{Segment, matches}
+use Rattle.ax_segments.specs.Sequences.{hash_in}
 use Rattle.ax_tokens.specs.Tokens.{Token, covers}
 use Rattle.ax_projections.specs.Items.{Placed, placed_items, plain_items}
 use Rattle.ax_claims.specs.Rows.{TokenRow}
@@ -24,12 +23,6 @@ portion_of r = record { segment = r.segment; token = r.token }
 abbrev pub portions : List TokenRow → List Portion
 portions rows = map portion_of rows
 
-abbrev pub portion_cmp : Portion → Portion → Ordering
-portion_cmp x y = segment_cmp x.segment y.segment
-
-abbrev pub put_portion : Portion → List Portion → List Portion
-put_portion = put_rising portion_cmp
-
 abbrev pub portion_covers : ℕ → ℕ → Option Portion → Bool
 portion_covers h i None = false
 portion_covers h i (Some x) = covers x.token x.segment.mask h i
@@ -42,9 +35,9 @@ covered_by ps h i = portion_covers h i (find (λ x. matches x.segment h) ps)
 abbrev pub items_in : List Upcaster → List Stored → Name → List Placed
 items_in chain es a = flat_map (placed_items chain) (stream_in a es)
 
--- the covered ones of the events
-abbrev pub covered_events : List Portion → List Stored → List Stored
-covered_events ps es = filter (λ e. covered_by ps (hash_of e.record_of.aggregate) e.index) es
+-- the covered ones of the events; where a processor is whole, `whole` is its name
+abbrev pub covered_events : Option Name → List Portion → List Stored → List Stored
+covered_events whole ps es = filter (λ e. covered_by ps (hash_in whole e.record_of.aggregate) e.index) es
 
 -- of the covered events cs: the position of an aggregate and its row
 abbrev pub position_by : List Upcaster → List Stored → Option ItemName → Name → ℕ

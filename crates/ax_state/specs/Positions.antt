@@ -6,11 +6,12 @@ use Rattle.ax_values.specs.Words.{same_item, contains_item, place_where}
 use Rattle.ax_log.specs.Log.{aggregates, is_reserved}
 use Rattle.ax_rules.specs.Expr.{Row}
 use Rattle.ax_rules.specs.Rules.{Rules, fold_items, lenient, start_row, row_or}
-use Rattle.ax_segments.specs.Segments.{hash_of}
+use Rattle.ax_segments.specs.Sequences.{hash_in}
+use Rattle.ax_tokens.specs.Plain.{Plain}
 use Rattle.ax_tokens.specs.Tokens.{Token, covers, plain, merged, replay}
 use Rattle.ax_projections.specs.Items.{Placed, items_of, plain_items}
 use Rattle.ax_claims.specs.Rows.{TokenRow, row_serving}
-use Rattle.ax_state.specs.Setting.{projection_at}
+use Rattle.ax_state.specs.Setting.{projection_at, whole_at}
 use Rattle.ax_state.specs.State.{State, ProcessorState, processor_state_at}
 use Rattle.ax_values.specs.declared.cell.Cell.{Cell}
 use Rattle.ax_values.specs.declared.item.Item.{Item}
@@ -37,14 +38,17 @@ row_covers h i (Some r) = covers r.token r.segment.mask h i
 abbrev pub covered_in : List TokenRow → ℕ → ℕ → Bool
 covered_in rows h i = row_covers h i (row_serving h rows)
 
-abbrev pub covered_items_in : List Upcaster → List Cell → List TokenRow → Name → List Placed
-covered_items_in chain cells rows a = filter (λ x. covered_in rows (hash_of a) x.index) (items_of chain a cells)
+-- Where a processor is whole, `whole` is its name.
+
+-- the covered ones of the items of an aggregate
+abbrev pub covered_items_in : Option Name → List Upcaster → List Cell → List TokenRow → Name → List Placed
+covered_items_in whole chain cells rows a = filter (λ x. covered_in rows (hash_in whole a) x.index) (items_of chain a cells)
 
 -- ---- positions and rows, of what a processor keeps
 
 -- the item of an aggregate's first letter, where it has letters
-abbrev pub first_letter : ProcessorState → Name → Option ItemName
-first_letter processor_state a = None
+abbrev pub first_letter : Option Name → ProcessorState → Name → Option ItemName
+first_letter whole processor_state a = None
 
 -- the items that were dropped
 abbrev pub drops_of : ProcessorState → List ItemName
@@ -56,26 +60,26 @@ position_with None items count = count
 position_with (Some x) items count = place_where (λ y. same_item y.item.name x) items
 
 -- the place of the aggregate's first letter in its items, or the number of the covered ones
-abbrev pub position_in : List Upcaster → List Cell → ProcessorState → Name → ℕ
-position_in chain cells processor_state a = position_with (first_letter processor_state a) (items_of chain a cells) (length (covered_items_in chain cells processor_state.rows a))
+abbrev pub position_in : Option Name → List Upcaster → List Cell → ProcessorState → Name → ℕ
+position_in whole chain cells processor_state a = position_with (first_letter whole processor_state a) (items_of chain a cells) (length (covered_items_in whole chain cells processor_state.rows a))
 
 abbrev pub undropped : List ItemName → List Placed → List Placed
 undropped drops xs = filter (λ x. not (contains_item x.item.name drops)) xs
 
 -- the items that a row is the fold of: a prefix of the aggregate's items, less the dropped ones
-abbrev pub row_items_in : List Upcaster → List Cell → ProcessorState → Name → List Item
-row_items_in chain cells processor_state a = plain_items (undropped (drops_of processor_state) (take (position_in chain cells processor_state a) (items_of chain a cells)))
+abbrev pub row_items_in : Option Name → List Upcaster → List Cell → ProcessorState → Name → List Item
+row_items_in whole chain cells processor_state a = plain_items (undropped (drops_of processor_state) (take (position_in whole chain cells processor_state a) (items_of chain a cells)))
 
-abbrev pub row_in : Rules → List Upcaster → List Cell → ProcessorState → Name → Result Row Cause
-row_in rules chain cells processor_state a = fold_items rules (row_items_in chain cells processor_state a)
+abbrev pub row_in : Option Name → Rules → List Upcaster → List Cell → ProcessorState → Name → Result Row Cause
+row_in whole rules chain cells processor_state a = fold_items rules (row_items_in whole chain cells processor_state a)
 
 -- ---- the same of a state
 
 abbrev pub position_of : State → ℕ → Name → ℕ
-position_of m p a = position_in m.setting.sheet.chain m.cells (processor_state_at m p) a
+position_of m p a = position_in (whole_at m.setting p) m.setting.sheet.chain m.cells (processor_state_at m p) a
 
 abbrev pub row_of : State → ℕ → Name → Result Row Cause
-row_of m p a = row_in (projection_at m.setting p) m.setting.sheet.chain m.cells (processor_state_at m p) a
+row_of m p a = row_in (whole_at m.setting p) (projection_at m.setting p) m.setting.sheet.chain m.cells (processor_state_at m p) a
 
 -- a row with its aggregate and position
 pub record Shown : Type 0 where
@@ -108,11 +112,15 @@ abbrev pub is_empty : {A : Type 0} → List A → Bool
 is_empty [] = true
 is_empty (x ∷ xs) = false
 
--- whether every part covers every one of n cells
+-- whether the set is that of the first n indexes
+abbrev pub has_all : ℕ → Plain → Bool
+has_all n p = (p.next == n) && is_empty p.gaps
+
+-- whether every part covers every one of n cells, both parts of a replay too
 abbrev pub covers_all : ℕ → Token → Bool
-covers_all n (plain p) = (p.next == n) && is_empty p.gaps
+covers_all n (plain p) = has_all n p
 covers_all n (merged l u) = covers_all n l && covers_all n u
-covers_all n (replay r c) = false
+covers_all n (replay r c) = has_all n r && has_all n c
 
 -- no cell is reserved, and every part of every row covers every cell
 abbrev pub is_at_head : State → ℕ → Bool

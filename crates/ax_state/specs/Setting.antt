@@ -1,5 +1,5 @@
 -- What a script declares: a sheet, processors of it, and actors. Each has its place in the head as its number.
-use Rattle.std.specs.Prelude.{ℕ, Bool, false, not, List, [], slice_get}
+use Rattle.std.specs.Prelude.{ℕ, Bool, false, not, List, [], Option, None, slice_get}
 use Rattle.ax_values.specs.Grammar.{Name}
 use Rattle.ax_log.specs.Log.{option_is}
 use Rattle.ax_values.specs.Words.{same_name, place_where}
@@ -37,6 +37,14 @@ is_projection s p = option_is (λ q. not q.saga) (slice_get s.processors p)
 
 abbrev pub is_saga : Setting → ℕ → Bool
 is_saga s p = option_is (λ q. q.saga) (slice_get s.processors p)
+
+-- The name of a processor that is whole: all its events are one sequence. No processor is whole yet, and no proof but that of a step sees this.
+unfoldable pub whole_at : Setting → ℕ → Option Name
+whole_at s p = None
+
+-- whether no token of the processor has a gap
+unfoldable pub needs_no_gaps : Setting → ℕ → Bool
+needs_no_gaps s p = is_saga s p
 
 abbrev pub no_rules : Rules
 no_rules = record { fields = []; rules = [] }

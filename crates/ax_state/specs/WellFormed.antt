@@ -6,16 +6,17 @@ use Rattle.ax_values.specs.Words.{rises}
 use Rattle.ax_log.specs.Log.{Stored, events, stream_in, is_settled}
 use Rattle.ax_log.specs.Order.{IsOrdered, has_few_fields}
 use Rattle.ax_log.specs.Answers.{AreOf, aggregate_of}
-use Rattle.ax_segments.specs.Segments.{Segment, hash_of, matches}
+use Rattle.ax_segments.specs.Segments.{Segment, IsSegment, matches}
+use Rattle.ax_segments.specs.Sequences.{hash_in}
 use Rattle.ax_tokens.specs.Plain.{Plain, has, contains, plain_of, is_canonical_plain}
-use Rattle.ax_tokens.specs.Tokens.{Token, plain, merged, replay, collapsed, parts, gaps_fit, masks_fit}
+use Rattle.ax_tokens.specs.Tokens.{Token, plain, merged, replay, collapsed, covers, parts, gaps_fit, masks_fit}
 use Rattle.ax_sheet.specs.Sheet.{Sheet, command_fits}
 use Rattle.ax_claims.specs.Rows.{TokenRow}
 use Rattle.ax_state.specs.Every.{AllFrom, count}
-use Rattle.ax_state.specs.Setting.{Setting, name_at, is_projection, is_saga, projection_at}
+use Rattle.ax_state.specs.Setting.{Setting, name_at, is_projection, is_saga, projection_at, whole_at, needs_no_gaps}
 use Rattle.ax_state.specs.State.{State, ProcessorState, Desk, Batch, Reservation}
 use Rattle.ax_state.specs.Positions.{first_letter, drops_of}
-use Rattle.ax_state.specs.Portions.{Portion, portions, put_portion, covered_by, covered_events, row_by}
+use Rattle.ax_state.specs.Portions.{Portion, portions, covered_by, covered_events, row_by}
 use Rattle.ax_values.specs.declared.cell.Cell.{Cell}
 
 -- ---- the sheet
@@ -83,19 +84,23 @@ pub record IsTokenOver (cells : List Cell) (mask : ℕ) (t : Token) : Type 0 whe
   pub gaps : IsTrue (gaps_fit t)
   pub stays : collapsed t ≡ t
 
--- the segments rise, and match each hash of 32 bits once
+-- segments that rise, and match each hash of 32 bits once
 pub record AreParts (ps : List Portion) : Type 0 where
+  pub each : AllByRecursion (λ x. IsSegment x.segment) ps
   pub order : IsTrue (rises (λ x y. nat_lt x.segment.id y.segment.id) ps)
   pub once : (h : ℕ) → h < 2 ^ 32 → length (filter (λ x. matches x.segment h) ps) ≡ 1
 
 abbrev pub AreTokens : List Cell → List Portion → Type 0
 AreTokens cells ps = AllByRecursion (λ x. IsTokenOver cells x.segment.mask x.token) ps
 
--- a token of a saga processor has no gap and no replay
-abbrev pub is_gapless : Token → Bool
-is_gapless (plain p) = length p.gaps == 0
-is_gapless (merged l u) = is_gapless l && is_gapless u
-is_gapless (replay r c) = false
+-- no part has a gap
+abbrev pub has_no_gaps : Token → Bool
+has_no_gaps t = list_all (λ p. length p.gaps == 0) (parts t)
+
+abbrev pub has_no_replay : Token → Bool
+has_no_replay (plain p) = true
+has_no_replay (merged l u) = has_no_replay l && has_no_replay u
+has_no_replay (replay r c) = false
 
 -- ---- what the tokens cover
 
@@ -105,18 +110,28 @@ is_prefix_test [] = true
 is_prefix_test (true ∷ bs) = is_prefix_test bs
 is_prefix_test (false ∷ bs) = list_all not bs
 
+-- the events of an aggregate at indexes that pass are a prefix of its stream
+abbrev pub PassPrefix : (ℕ → Bool) → List Stored → Name → Type 0
+PassPrefix test es a = IsTrue (is_prefix_test (map (λ e. test e.index) (stream_in a es)))
+
+-- Where a processor is whole, `whole` is its name.
+
 -- the covered events of each aggregate are a prefix of its stream
-abbrev pub CoverPrefix : List Stored → List Portion → Type 0
-CoverPrefix es ps = (a : Name) → IsTrue (is_prefix_test (map (λ e. covered_by ps (hash_of a) e.index) (stream_in a es)))
+abbrev pub CoverPrefix : Option Name → List Stored → List Portion → Type 0
+CoverPrefix whole es ps = (a : Name) → PassPrefix (λ i. covered_by ps (hash_in whole a) i) es a
+
+-- the same of one token, for each aggregate whose hash its segment matches
+abbrev pub TokenPrefix : Option Name → List Stored → Segment → Token → Type 0
+TokenPrefix whole es s t = (a : Name) → matches s (hash_in whole a) ≡ true → PassPrefix (λ i. covers t s.mask (hash_in whole a) i) es a
 
 -- of the covered events cs: every row of a projection is defined
 abbrev pub HasRows : Setting → ℕ → List Stored → (Name → Option ItemName) → List ItemName → Type 0
 HasRows setting p cs first drops = IsTrue (is_projection setting p) → (a : Name) → IsOk (row_by (projection_at setting p) setting.sheet.chain cs (first a) drops a)
 
 -- all that is read off events and portions
-pub record IsFolded (setting : Setting) (p : ℕ) (es : List Stored) (ps : List Portion) (first : Name → Option ItemName) (drops : List ItemName) : Type 0 where
-  pub prefixes : CoverPrefix es ps
-  pub rows : HasRows setting p (covered_events ps es) first drops
+pub record IsFolded (setting : Setting) (whole : Option Name) (p : ℕ) (es : List Stored) (ps : List Portion) (first : Name → Option ItemName) (drops : List ItemName) : Type 0 where
+  pub prefixes : CoverPrefix whole es ps
+  pub rows : HasRows setting p (covered_events whole ps es) first drops
 
 -- a row without an owner has claim time 0
 abbrev pub IsOwnedRight : TokenRow → Type 0
@@ -126,8 +141,9 @@ IsOwnedRight r = r.owner ≡ None → r.since ≡ 0
 pub record IsProcessorState (setting : Setting) (cells : List Cell) (p : ℕ) (processor_state : ProcessorState) : Type 0 where
   pub parts : AreParts (portions processor_state.rows)
   pub tokens : AreTokens cells (portions processor_state.rows)
-  pub folded : IsFolded setting p (events cells) (portions processor_state.rows) (first_letter processor_state) (drops_of processor_state)
-  pub gapless : IsTrue (is_saga setting p) → AllByRecursion (λ x. IsTrue (is_gapless x.token)) (portions processor_state.rows)
+  pub folded : IsFolded setting (whole_at setting p) p (events cells) (portions processor_state.rows) (first_letter (whole_at setting p) processor_state) (drops_of processor_state)
+  pub gaps : IsTrue (needs_no_gaps setting p) → AllByRecursion (λ x. IsTrue (has_no_gaps x.token)) (portions processor_state.rows)
+  pub replays : IsTrue (is_saga setting p) → AllByRecursion (λ x. IsTrue (has_no_replay x.token)) (portions processor_state.rows)
   pub owners : AllByRecursion IsOwnedRight processor_state.rows
 
 -- ---- fences
@@ -173,23 +189,24 @@ pub record Advanced (cells : List Cell) (old new : Token) : Type 0 where
   pub settled : AllByRecursion (λ i. IsTrue (is_settled cells i)) added
   pub new_is : new ≡ collapsed (with_added (contains added) bound old)
 
--- of a batch whose row, with the token t, stands under the batch's fence
-pub record IsStanding (cells : List Cell) (ps : List Portion) (b : Batch) (t : Token) : Type 0 where
+-- Of a batch whose row, with the token t, stands under the batch's fence: it keeps what is asked of the row's token, and of the tokens of the row's processor.
+pub record IsStanding (setting : Setting) (cells : List Cell) (b : Batch) (t : Token) : Type 0 where
   pub old : b.old ≡ t
   pub new : Advanced cells b.old b.new
   pub token : IsTokenOver cells b.segment.mask b.new
-  pub prefixes : CoverPrefix (events cells) (put_portion (record { segment = b.segment; token = b.new }) ps)
+  pub prefixes : TokenPrefix (whole_at setting b.processor) (events cells) b.segment b.new
+  pub gaps : IsTrue (needs_no_gaps setting b.processor) → IsTrue (has_no_gaps b.new)
 
-abbrev pub IsBatchRow : List Cell → List Portion → Batch → TokenRow → Type 0
-IsBatchRow cells ps b r = r.segment ≡ b.segment → r.fence ≡ b.fence → IsStanding cells ps b r.token
+abbrev pub IsBatchRow : Setting → List Cell → Batch → TokenRow → Type 0
+IsBatchRow setting cells b r = r.segment ≡ b.segment → r.fence ≡ b.fence → IsStanding setting cells b r.token
 
 -- of the processor_state of the processor q
-abbrev pub IsBatchAt : List Cell → Batch → ℕ → ProcessorState → Type 0
-IsBatchAt cells b q processor_state = q ≡ b.processor → AllByRecursion (IsBatchRow cells (portions processor_state.rows) b) processor_state.rows
+abbrev pub IsBatchAt : Setting → List Cell → Batch → ℕ → ProcessorState → Type 0
+IsBatchAt setting cells b q processor_state = q ≡ b.processor → AllByRecursion (IsBatchRow setting cells b) processor_state.rows
 
 pub record IsBatchIn (setting : Setting) (cells : List Cell) (processor_states : List ProcessorState) (b : Batch) : Type 0 where
   pub declared : IsTrue (is_projection setting b.processor)
-  pub rows : AllFrom (IsBatchAt cells b) 0 processor_states
+  pub rows : AllFrom (IsBatchAt setting cells b) 0 processor_states
 
 -- ---- the whole
 
