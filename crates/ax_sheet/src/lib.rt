@@ -4,6 +4,8 @@
 mod cards;
 mod decision;
 mod sheet;
+#[cfg(test)]
+mod tests;
 mod text;
 
 pub use ax_sheet_parts::{
