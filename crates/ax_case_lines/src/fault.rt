@@ -11,6 +11,11 @@ pub enum CaseFault {
 }
 
 impl From<NoMemory> for CaseFault {
+    ghost use Rattle.std.specs.Prelude.{◌≡◌};
+    ghost use Rattle.ax_case_lines.specs.declared.fault.CaseFault.TheVariants as fault;
+
+    ghost from_gives = { λ _ made. made ≡ fault.Memory };
+
     fn from(_: NoMemory) -> CaseFault {
         CaseFault::Memory
     }
