@@ -1,6 +1,5 @@
 -- What a claim answers: a refusal changes nothing, and a grant leads to the state of the definition.
 use Rattle.std.proofs.Common.{◌≡◌, ℕ, suc, ◌+◌, ◌<◌, Bool, true, false, not, ◌&&◌, List, [], ◌∷◌, ◌++◌, length, Option, Some, None, Ok, Err, IsTrue, is_some, find, map, slice_get, if◌then◌else◌, refl, sym, ap, ap₂, ◌∙◌, subst, arith}
-use Rattle.std.proofs.lemmas.List.{length-map}
 use Rattle.ax_values.specs.Grammar.{Name}
 use Rattle.ax_values.specs.Words.{place_where}
 use Rattle.ax_segments.specs.Segments.{Segment, same_segment}
@@ -9,18 +8,18 @@ use Rattle.ax_claims.specs.Changes.{is_claimed, is_other, is_expired, owned, cla
 use Rattle.ax_claims.specs.declared.refused.Refused.{Refused}
 use Rattle.ax_claims.proofs.RowPlaces.{get-within}
 use Rattle.ax_state.specs.Every.{option_or}
-use Rattle.ax_state.specs.State.{State, ProcessorState, Desk, Held, processor_state_at, desk_at, empty_desk, empty_processor, actor_name, with_desk, with_fence, with_rows}
+use Rattle.ax_state.specs.State.{State, ProcessorState, Desk, Held, processor_state_at, desk_at, empty_desk, actor_name, with_desk, with_fence, with_rows}
 use Rattle.ax_state.specs.Portions.{portions}
-use Rattle.ax_state.specs.WellFormed.{IsProcessorState, AreParts}
+use Rattle.ax_state.specs.WellFormed.{AreParts}
 use Rattle.ax_state.specs.Answer.{answer}
-use Rattle.ax_state.proofs.Lists.{AllFrom-get}
 use Rattle.ax_state.proofs.RowPuts.{portions-put}
-use Rattle.ax_world.specs.WorldTables.{WorldTables, ProcessorTables, state_of, processor_tables_at}
+use Rattle.ax_state.proofs.Frames.{place-there, place-at}
+use Rattle.ax_world.specs.WorldTables.{WorldTables, state_of, processor_tables_at}
 use Rattle.ax_world.specs.EditsApplied.{edits_applied}
 use Rattle.ax_world.specs.Fits.{IsWorld}
 use Rattle.ax_world.specs.Moves.{IsMove}
 use Rattle.ax_world.proofs.StepMoves.{unmoved, moved}
-use Rattle.ax_world.proofs.ProcessorStates.{get-at, processor_state-place, state-rows, tables-rows}
+use Rattle.ax_world.proofs.ProcessorStates.{processor_state-place, state-rows, tables-rows}
 use Rattle.ax_world.specs.declared.edit.Edit.{Edit}
 use Rattle.ax_world.specs.declared.edit.Move.{Move}
 use Rattle.ax_journal.specs.declared.reply.Reply.{Reply}
@@ -126,16 +125,13 @@ module _ (w : WorldTables) (actor p : ℕ) (s : Segment) (old : Desk) (row : Tok
       ∙ ap (λ (d : Desk). granted_to (record d { held = hold_fence p s (suc w.fence) d.held }) (put_row (owned row (Some (actor_name (state_of w) actor)) w.clock (suc w.fence)) (processor_state_at (state_of w) p).rows) (state_of w)) (sym is)
 
   module _ (h : IsWorld w) (lt : p < length w.processor_tables) (found : row_at s (processor_tables_at w p).processor_state.rows ≡ Some row) where
-    there : slice_get (state_of w).processor_states p ≡ Some (processor_state_at (state_of w) p)
-    there = let l : length (map (λ (x : ProcessorTables). x.processor_state) w.processor_tables) ≡ length w.processor_tables = length-map w.processor_tables (λ x. x.processor_state) in get-at empty_processor (state_of w).processor_states p (omega arith)
-
     found-there : row_at s (processor_state_at (state_of w) p).rows ≡ Some row
     found-there = ap (λ (x : ProcessorState). row_at s x.rows) (processor_state-place w p) ∙ found
 
     same : portions after ≡ portions (processor_tables_at w p).processor_state.rows
     same =
-        let was : IsProcessorState w.setting w.cells p (processor_state_at (state_of w) p) = AllFrom-get (IsProcessorState w.setting w.cells) 0 (state_of w).processor_states p (processor_state_at (state_of w) p) h.state.processors there p (omega arith) in
-        portions-put s (processor_tables_at w p).processor_state.rows row (owned row (Some (actor_name (state_of w) actor)) w.clock (suc w.fence)) (subst (λ (x : ProcessorState). AreParts (portions x.rows)) (processor_state-place w p) was.parts) found refl
+        portions-put s (processor_tables_at w p).processor_state.rows row (owned row (Some (actor_name (state_of w) actor)) w.clock (suc w.fence))
+        (subst (λ (x : ProcessorState). AreParts (portions x.rows)) (processor_state-place w p) (place-at (state_of w) p (place-there (state_of w) p s row found-there) h.state).parts) found refl refl
 
     granted-move : slice_get w.desks actor ≡ Some old → is_claimed (actor_name (state_of w) actor) w.clock row ≡ false
         → IsMove w (claimed (state_of w) actor p s (row_at s (processor_state_at (state_of w) p).rows)) (record { edits = changes; reply = Reply.Fenced (suc w.fence); report = [] })
@@ -145,7 +141,7 @@ module _ (w : WorldTables) (actor p : ℕ) (s : Segment) (old : Desk) (row : Tok
         in
         subst (λ x. IsMove w x (record { edits = changes; reply = Reply.Fenced (suc w.fence); report = [] })) (sym a)
         (moved w changes (granted (state_of w) actor p s row) (Reply.Fenced (suc w.fence)) h (omega arith) (lt, (get-within w.desks actor old at, (tt, tt))) (state-granted at)
-        (kept-granted (state_of w) actor p s (processor_state_at (state_of w) p) row there found-there h.state) refl (tables-rows w p after lt same h.tables) refl refl)
+        (kept-granted (state_of w) actor p s row found-there h.state) refl (tables-rows w p after lt same h.tables) refl refl)
 
 pub three : {A : Type 0} (a b c d : List A) (x y z : A) → a ≡ [] → b ≡ a ++ x ∷ [] → c ≡ b ++ y ∷ [] → d ≡ c ++ z ∷ [] → d ≡ x ∷ y ∷ z ∷ []
 three a b c d x y z h i j k = k ∙ ap (λ xs. xs ++ z ∷ []) (j ∙ ap (λ xs. xs ++ y ∷ []) (i ∙ ap (λ xs. xs ++ x ∷ []) h))

@@ -6,8 +6,8 @@ use Rattle.ax_claims.specs.Rows.{TokenRow, row_at, put_row}
 use Rattle.ax_claims.specs.Changes.{is_claimed, owned}
 use Rattle.ax_state.specs.Setting.{processor_number}
 use Rattle.ax_state.specs.State.{State, Held, desk_at, processor_state_at, with_desk, with_rows, with_fence, actor_name}
-use Rattle.ax_state.specs.Holding.{is_held_at}
 use Rattle.ax_state.specs.Answer.{Answer, answer}
+use Rattle.ax_world.specs.Holding.{is_held_at}
 use Rattle.ax_claims.specs.declared.refused.Refused.{Refused}
 use Rattle.ax_journal.specs.declared.order.Order.{Order}
 use Rattle.ax_journal.specs.declared.reply.Reply.{Reply}
@@ -76,6 +76,7 @@ abbrev pub IsDeclared : List Processor → Order → Type 0
 IsDeclared processors (Order.Claim processor segment) = processor_number processors processor < length processors
 IsDeclared processors order = Unit {0}
 
-abbrev pub step : State → ℕ → Order → Answer
-step m actor (Order.Claim processor segment) = claim m actor processor segment
-step m actor order = answer m Reply.Done
+-- of an order of this crate
+abbrev pub step : State → ℕ → (order : Order) → IsClaiming order → Answer
+step m actor (Order.Claim processor segment) kind = claim m actor processor segment
+step m actor order kind = absurd kind

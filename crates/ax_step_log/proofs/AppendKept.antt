@@ -17,11 +17,12 @@ use Rattle.ax_state.specs.Every.{AllFrom, option_or}
 use Rattle.ax_state.specs.Setting.{name_at}
 use Rattle.ax_state.specs.State.{State, Desk, Reservation, desk_at, empty_desk, with_cells}
 use Rattle.ax_state.specs.Answer.{answer}
-use Rattle.ax_state.specs.WellFormed.{IsWellFormed, IsProcessorState, IsBatchIn, IsReservation, IsHeldCell, HoldsCells, holds_cell}
-use Rattle.ax_state.proofs.Lists.{All-map, AllFrom-map, AllFrom-get, AllFrom-others, same-place}
+use Rattle.ax_state.specs.WellFormed.{IsWellFormed, IsReservation, IsHeldCell, HoldsCells, holds_cell}
+use Rattle.ax_state.proofs.Lists.{AllFrom-get, AllFrom-others, same-place}
+use Rattle.ax_state.proofs.Frames.{kept-cells}
 use Rattle.ax_state.proofs.Desks.{kept-unreserved}
 use Rattle.ax_state.proofs.Grow.{Grows, held-within, ordered-grows, kept-grown}
-use Rattle.ax_state.proofs.Fill.{Own, Fills, IsFill, fills-put, place-fills, batch-fills, fills-reserved_by}
+use Rattle.ax_state.proofs.Fill.{Own, IsFill, fills-put, fill-growth, fills-reserved_by}
 use Rattle.ax_step_log.specs.Logging.{append, appended, appended_unless, released, with_reservation}
 use Rattle.ax_step_log.proofs.Released.{grows-released, length-released, reserved-released}
 use Rattle.ax_values.specs.declared.cell.Cell.{Cell}
@@ -175,19 +176,12 @@ within-test : (x first n : ℕ) → first ≤ x → x < first + n → (nat_le fi
 within-test x first n h k = grind (arith, nat_tests)
 
 pub kept-taken : (m : State) (actor : ℕ) (d : Desk) (r : Reservation) → IsTaken m actor d r → IsWellFormed m → IsWellFormed (with_reservation actor None (with_cells (put_cells r.first (map Cell.Event r.records) m.cells) m))
-kept-taken m actor d r t h = record {
-  sheet = h.sheet;
+kept-taken m actor d r t h = kept-cells (with_reservation actor None m) later (record {
+  growth = fill-growth a r.first r.records m.cells f;
   log = ordered-taken m actor d r t h;
-  clock = record { limit = h.clock.limit; reserved = fills-reserved_by (Own a) m.clock m.cells later g h.clock.reserved; kept = h.clock.kept };
-  reserved = record { each = each; apart = emptied.reserved.apart };
-  processors = AllFrom-map (IsProcessorState m.setting m.cells) (IsProcessorState m.setting later) (place-fills m.setting a r.first r.records m.cells f) 0 m.processor_states h.processors;
-  declared = h.declared;
-  actors = emptied.actors;
-  fences = h.fences;
-  desks = emptied.desks;
-  batches = All-map (λ x. IfSome x.batch (IsBatchIn m.setting m.cells m.processor_states)) (λ x. IfSome x.batch (IsBatchIn m.setting later m.processor_states))
-      (λ x b. batch-fills m.setting a r.first r.records m.cells f m.processor_states h.processors x.batch b) (slice_set m.desks actor desk) emptied.batches;
-}
+  reserved = fills-reserved_by (Own a) m.clock m.cells later (fills-put (Own a) r.first r.records m.cells f.ready f.own) h.clock.reserved;
+  held = each;
+}) (kept-unreserved m actor h)
   where
     a : Name
     a = aggregate_of r.records
@@ -198,14 +192,8 @@ kept-taken m actor d r t h = record {
     later : List Cell
     later = put_cells r.first (map Cell.Event r.records) m.cells
 
-    g : Fills (Own a) m.cells later
-    g = fills-put (Own a) r.first r.records m.cells f.ready f.own
-
     desk : Desk
     desk = record (desk_at m actor) { reservation = None }
-
-    emptied : IsWellFormed (with_reservation actor None m)
-    emptied = kept-unreserved m actor h
 
     inside : r.first + length r.records ≤ length m.cells
     inside = within-taken m actor d r t h

@@ -9,17 +9,16 @@ use Rattle.ax_log.specs.Puts.{CanPutAll, put_all, puts_at}
 use Rattle.ax_log.specs.Answers.{HasCells, GoesOn, IsConflict, aggregate_of, void_among}
 use Rattle.ax_log.proofs.CellsMade.{put_all-puts_at}
 use Rattle.ax_state.specs.Every.{AllFrom}
-use Rattle.ax_state.specs.Setting.{Setting, name_at}
+use Rattle.ax_state.specs.Setting.{name_at}
 use Rattle.ax_state.specs.State.{Desk, Reservation, with_cells}
 use Rattle.ax_state.specs.Answer.{Answer, answer}
-use Rattle.ax_state.specs.Portions.{portions, covered_events}
-use Rattle.ax_state.specs.WellFormed.{IsProcessorState, IsReservation}
-use Rattle.ax_state.proofs.Fill.{Own, Fills, IsFill, fills-put, fills-covered}
-use Rattle.ax_world.specs.WorldTables.{WorldTables, ProcessorTables, state_of}
+use Rattle.ax_state.specs.WellFormed.{IsReservation}
+use Rattle.ax_state.proofs.Fill.{fill-growth}
+use Rattle.ax_world.specs.WorldTables.{WorldTables, state_of}
 use Rattle.ax_world.specs.EditsApplied.{edits_applied}
 use Rattle.ax_world.specs.Fits.{IsWorld, IsTable}
 use Rattle.ax_world.specs.Moves.{IsMove}
-use Rattle.ax_world.proofs.StepMoves.{moved, tables-kept}
+use Rattle.ax_world.proofs.StepMoves.{moved, tables-grown}
 use Rattle.ax_step_log.specs.Logging.{appended_unless, with_reservation, released}
 use Rattle.ax_step_log.specs.SendParts.{release_puts, void_puts}
 use Rattle.ax_step_log.proofs.Releases.{put-release, can-release, events-released}
@@ -50,11 +49,6 @@ state-emptied w actor puts later old new desk cells new_is =
     ap₂ (λ (cs : List Cell) (d : Desk). record (state_of w) { cells = cs; desks = slice_set w.desks actor d }) cells (new_is ∙ ap (λ (d : Desk). record d { reservation = None }) (sym (desk-is w actor old desk)))
 
 -- ---- the events are in the log
-
-covered-taken : (setting : Setting) (a : Name) (cells later : List Cell) → Fills (Own a) cells later → (n : ℕ) (xs : List ProcessorTables) → AllFrom (IsProcessorState setting cells) n (map (λ x. x.processor_state) xs)
-    → AllFrom (λ q x. covered_events (portions x.processor_state.rows) (events later) ≡ covered_events (portions x.processor_state.rows) (events cells)) n xs
-covered-taken setting a cells later f n [] h = tt
-covered-taken setting a cells later f n (x ∷ xs) h = (fills-covered (Own a) cells later (portions x.processor_state.rows) f h.0.tokens, covered-taken setting a cells later f (suc n) xs h.1)
 
 pub move-taken : (w : WorldTables) (actor : ℕ) (r : Reservation) (seq count : ℕ) (puts : List CellPut) (old new : Desk) → IsWorld w → slice_get w.desks actor ≡ Some old → old.reservation ≡ Some r → GoesOn w.cells r.first r.records
     → puts ≡ puts_at r.first (map Cell.Event r.records) → CanPutAll w.cells puts → new ≡ record old { reservation = None } → seq ≡ r.first_seq → count ≡ length r.records
@@ -90,13 +84,9 @@ move-taken w actor r seq count puts old new h desk has goes puts_are can new_is 
     cells = ap (λ (ps : List CellPut). put_all ps w.cells) puts_are
         ∙ put_all-puts_at (map Cell.Event r.records) r.first w.cells (let le : r.first + length r.records ≤ length w.cells = within-held w.cells (name_at w.setting.actors actor) r mine in omega arith)
 
-    fill : IsFill (aggregate_of r.records) r.first r.records w.cells
-    fill = fill-taken (state_of w) actor old r taken h.state
-
     tables : AllFrom (IsTable w.setting (events (put_all puts w.cells))) 0 w.processor_tables
     tables = subst (λ (cs : List Cell). AllFrom (IsTable w.setting (events cs)) 0 w.processor_tables) (sym cells)
-        (tables-kept w.setting (events w.cells) (events later) 0 w.processor_tables
-        (covered-taken w.setting (aggregate_of r.records) w.cells later (fills-put (Own (aggregate_of r.records)) r.first r.records w.cells fill.ready fill.own) 0 w.processor_tables h.state.processors) h.tables)
+        (tables-grown w.setting w.cells later (fill-growth (aggregate_of r.records) r.first r.records w.cells (fill-taken (state_of w) actor old r taken h.state)) 0 w.processor_tables h.state.processors h.tables)
 
 -- ---- a conflict
 

@@ -1,5 +1,5 @@
 -- A send keeps what holds of every state.
-use Rattle.std.specs.Prelude.{◌≡◌, ℕ, zero, suc, ◌+◌, ◌-◌, ◌<◌, ◌≤◌, ◌&&◌, Bool, true, false, IfSome, List, [], ◌∷◌, ◌++◌, length, Option, Some, None, slice_get, slice_set, replicate, nat_lt, nat_le, if◌then◌else◌}
+use Rattle.std.specs.Prelude.{◌≡◌, ℕ, zero, suc, ◌+◌, ◌-◌, ◌<◌, ◌≤◌, ◌&&◌, Bool, true, false, IfSome, List, [], ◌∷◌, ◌++◌, length, Option, Some, None, slice_get, slice_set, replicate, is_some, nat_lt, nat_le, if◌then◌else◌}
 use Rattle.std.specs.List.{AllByRecursion, list_all}
 use Rattle.std.proofs.Common.{refl, ap, sym, ◌∙◌, subst, arith, length-append}
 use Rattle.std.proofs.lemmas.List.{length-replicate}
@@ -15,7 +15,7 @@ use Rattle.ax_log.proofs.Order.{IsQuiet}
 use Rattle.ax_sheet.specs.Sheet.{command_named}
 use Rattle.ax_sheet.specs.Commands.{Command}
 use Rattle.ax_sheet.specs.Decision.{decision}
-use Rattle.ax_state.specs.Every.{AllFrom, count, one}
+use Rattle.ax_state.specs.Every.{AllFrom, count, one, option_or}
 use Rattle.ax_state.specs.Setting.{name_at}
 use Rattle.ax_state.specs.State.{State, Desk, Reservation, desk_at, actor_name, with_cells}
 use Rattle.ax_state.specs.Positions.{aggregate_state}
@@ -24,7 +24,7 @@ use Rattle.ax_state.specs.WellFormed.{IsWellFormed, HoldsCells, IsReservation, r
 use Rattle.ax_state.proofs.Lists.{AllFrom-set, count-set, count-none}
 use Rattle.ax_state.proofs.Desks.{kept-reservation}
 use Rattle.ax_state.proofs.Grow.{Grows, held-within, grows-append, ordered-grows, kept-grown}
-use Rattle.ax_step_log.specs.Logging.{send, sent_by, sent_decided, sent_events, with_reservation, released, reserved_cells, reservation_of, as_records}
+use Rattle.ax_step_log.specs.Logging.{send, sent_decided, no_command, sent_events, with_reservation, released, reserved_cells, reservation_of, as_records}
 use Rattle.ax_step_log.specs.SendParts.{EventsFit, few_fields}
 use Rattle.ax_step_log.proofs.Decisions.{decision-fits, command-fits}
 use Rattle.ax_step_log.proofs.Released.{grows-released, length-released, reserved-released}
@@ -209,14 +209,14 @@ kept-events m actor a es fit h = at (nat_lt max_cells (length m.cells + length e
     at true e = h
     at false e = kept-reserved m actor a es fit (ltb-false max_cells (length m.cells + length es) e) h
 
-pub kept-send : (m : State) (actor : ℕ) (a command : Name) (args : Payload) → IsWellFormed m → IsWellFormed (send m actor a command args).state
-kept-send m actor a command args h = by (command_named m.setting.sheet command) refl
+pub kept-send : (m : State) (actor : ℕ) (a command : Name) (args : Payload) → is_some (command_named m.setting.sheet command) ≡ true → IsWellFormed m → IsWellFormed (send m actor a command args).state
+kept-send m actor a command args declared h = by (command_named m.setting.sheet command) refl declared
   where
     at : (c : Command) → command_named m.setting.sheet command ≡ Some c → (d : Decided) → decision c args (aggregate_state m a) ≡ d → IsWellFormed (sent_decided m actor a d).state
     at c f (Decided.Guard n) e = h
     at c f (Decided.Events es) e =
         kept-events m actor a es (decision-fits (length m.setting.sheet.aggregate.fields) c args (aggregate_state m a) es (command-fits m.setting.sheet command c h.sheet f) e) h
 
-    by : (o : Option Command) → command_named m.setting.sheet command ≡ o → IsWellFormed (sent_by m actor a args o).state
-    by None f = h
-    by (Some c) f = at c f (decision c args (aggregate_state m a)) refl
+    by : (o : Option Command) → command_named m.setting.sheet command ≡ o → is_some o ≡ true → IsWellFormed (sent_decided m actor a (decision (option_or no_command o) args (aggregate_state m a))).state
+    by None f some = absurd (cc)
+    by (Some c) f some = at c f (decision c args (aggregate_state m a)) refl

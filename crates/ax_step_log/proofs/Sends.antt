@@ -10,7 +10,7 @@ use Rattle.ax_log.specs.Puts.{CanPutAll, put_all, puts_at}
 use Rattle.ax_state.specs.Every.{AllFrom, option_or}
 use Rattle.ax_state.specs.State.{Desk, Reservation, desk_at, empty_desk, actor_name, with_cells}
 use Rattle.ax_state.specs.Answer.{Answer, answer}
-use Rattle.ax_state.proofs.Grow.{grows-append, grows-events}
+use Rattle.ax_state.proofs.Grow.{events-few, grows-append, grows-events}
 use Rattle.ax_world.specs.WorldTables.{WorldTables, state_of}
 use Rattle.ax_world.specs.EditsApplied.{edits_applied}
 use Rattle.ax_world.specs.Fits.{IsWorld, IsTable}
@@ -31,16 +31,10 @@ use Rattle.ax_laws.proofs.Lists.{length-filter}
 
 -- ---- how long a stream is
 
-length-events : (k : ℕ) (cells : List Cell) → length (events_from k cells) ≤ length cells
-length-events k [] = omega arith
-length-events k (Cell.Reserved a s w t ∷ cs) = let ih : length (events_from (suc k) cs) ≤ length cs = length-events (suc k) cs in omega arith
-length-events k (Cell.Void ∷ cs) = let ih : length (events_from (suc k) cs) ≤ length cs = length-events (suc k) cs in omega arith
-length-events k (Cell.Event r ∷ cs) = let ih : length (events_from (suc k) cs) ≤ length cs = length-events (suc k) cs in omega arith
-
 pub stream-within : (a : Name) (cells : List Cell) → length_of a cells ≤ length cells
 stream-within a cells =
     let f : length_of a cells ≤ length (events_from 0 cells) = length-filter (is_of a) (events_from 0 cells) in
-    let e : length (events_from 0 cells) ≤ length cells = length-events 0 cells in omega arith
+    let e : length (events_from 0 cells) ≤ length cells = events-few 0 cells in omega arith
 
 -- ---- a send
 

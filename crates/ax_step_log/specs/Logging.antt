@@ -1,13 +1,14 @@
 -- Steps on the log: send and append.
-use Rattle.std.specs.Prelude.{ℕ, zero, suc, ◌+◌, ◌==◌, List, [], ◌∷◌, ◌++◌, map, length, replicate, Option, Some, None, nat_lt, if◌then◌else◌}
+use Rattle.std.specs.Prelude.{ℕ, zero, suc, ◌+◌, ◌==◌, List, [], ◌∷◌, ◌++◌, map, length, replicate, Option, Some, None, IsTrue, is_some, nat_lt, if◌then◌else◌}
 use Rattle.ax_values.specs.Grammar.{Name}
 use Rattle.ax_values.specs.Words.{Payload}
 use Rattle.ax_log.specs.Log.{length_of, put_cells}
 use Rattle.ax_log.specs.Order.{max_cells}
 use Rattle.ax_log.specs.Answers.{aggregate_of, void_among}
-use Rattle.ax_sheet.specs.Sheet.{command_named}
+use Rattle.ax_sheet.specs.Sheet.{Sheet, command_named}
 use Rattle.ax_sheet.specs.Commands.{Command}
 use Rattle.ax_sheet.specs.Decision.{decision}
+use Rattle.ax_state.specs.Every.{option_or}
 use Rattle.ax_state.specs.State.{State, Reservation, desk_at, with_desk, with_cells, actor_name}
 use Rattle.ax_state.specs.Positions.{aggregate_state}
 use Rattle.ax_state.specs.Answer.{Answer, answer}
@@ -64,13 +65,15 @@ abbrev pub sent_decided : State → ℕ → Name → Decided → Answer
 sent_decided m actor a (Decided.Guard g) = answer m (Reply.GuardFails g)
 sent_decided m actor a (Decided.Events es) = sent_events m actor a es
 
--- scripts name declared commands alone
-abbrev pub sent_by : State → ℕ → Name → Payload → Option Command → Answer
-sent_by m actor a args None = answer m Reply.NoReservation
-sent_by m actor a args (Some c) = sent_decided m actor a (decision c args (aggregate_state m a))
+abbrev pub no_command : Command
+no_command = record { params = []; guards = []; events = [] }
+
+-- the command of a name that the sheet has
+abbrev pub command_at : Sheet → Name → Command
+command_at sheet name = option_or no_command (command_named sheet name)
 
 abbrev pub send : State → ℕ → Name → Name → Payload → Answer
-send m actor a command args = sent_by m actor a args (command_named m.setting.sheet command)
+send m actor a command args = sent_decided m actor a (decision (command_at m.setting.sheet command) args (aggregate_state m a))
 
 -- ---- append
 
@@ -91,63 +94,19 @@ append m actor = appended m actor (desk_at m actor).reservation
 
 -- ---- both
 
--- send or append
+-- the orders of this crate
 abbrev pub IsLogged : Order → Type 0
 IsLogged (Order.Send a command args) = Unit {0}
 IsLogged Order.Append = Unit {0}
-IsLogged (Order.Tick x) = ⊥
-IsLogged (Order.Void x) = ⊥
-IsLogged (Order.Snapshot x) = ⊥
-IsLogged Order.Deliver = ⊥
-IsLogged (Order.Claim p s) = ⊥
-IsLogged (Order.Extend p s) = ⊥
-IsLogged (Order.Release p s) = ⊥
-IsLogged (Order.Split p s) = ⊥
-IsLogged (Order.Merge p s) = ⊥
-IsLogged (Order.Reset p) = ⊥
-IsLogged (Order.Fetch p s n) = ⊥
-IsLogged Order.Commit = ⊥
-IsLogged (Order.Take p) = ⊥
-IsLogged Order.Settle = ⊥
-IsLogged (Order.Evict p x) = ⊥
-IsLogged (Order.Policy p k) = ⊥
-IsLogged (Order.Mark p x) = ⊥
-IsLogged (Order.Heal p x) = ⊥
-IsLogged (Order.Advance p s n) = ⊥
-IsLogged Order.Stop = ⊥
-IsLogged (Order.ShowRows p) = ⊥
-IsLogged (Order.ShowTokens p) = ⊥
-IsLogged (Order.ShowLetters p) = ⊥
-IsLogged (Order.ShowSagas p) = ⊥
-IsLogged Order.ShowLog = ⊥
-IsLogged Order.ShowSent = ⊥
+IsLogged order = ⊥
 
-abbrev pub step : State → ℕ → Order → Answer
-step m actor (Order.Send a command args) = send m actor a command args
-step m actor Order.Append = append m actor
-step m actor (Order.Tick x) = answer m Reply.Done
-step m actor (Order.Void x) = answer m Reply.Done
-step m actor (Order.Snapshot x) = answer m Reply.Done
-step m actor Order.Deliver = answer m Reply.Done
-step m actor (Order.Claim p s) = answer m Reply.Done
-step m actor (Order.Extend p s) = answer m Reply.Done
-step m actor (Order.Release p s) = answer m Reply.Done
-step m actor (Order.Split p s) = answer m Reply.Done
-step m actor (Order.Merge p s) = answer m Reply.Done
-step m actor (Order.Reset p) = answer m Reply.Done
-step m actor (Order.Fetch p s n) = answer m Reply.Done
-step m actor Order.Commit = answer m Reply.Done
-step m actor (Order.Take p) = answer m Reply.Done
-step m actor Order.Settle = answer m Reply.Done
-step m actor (Order.Evict p x) = answer m Reply.Done
-step m actor (Order.Policy p k) = answer m Reply.Done
-step m actor (Order.Mark p x) = answer m Reply.Done
-step m actor (Order.Heal p x) = answer m Reply.Done
-step m actor (Order.Advance p s n) = answer m Reply.Done
-step m actor Order.Stop = answer m Reply.Done
-step m actor (Order.ShowRows p) = answer m Reply.Done
-step m actor (Order.ShowTokens p) = answer m Reply.Done
-step m actor (Order.ShowLetters p) = answer m Reply.Done
-step m actor (Order.ShowSagas p) = answer m Reply.Done
-step m actor Order.ShowLog = answer m Reply.Done
-step m actor Order.ShowSent = answer m Reply.Done
+-- the sheet has the command that the order names
+abbrev pub IsDeclared : Sheet → Order → Type 0
+IsDeclared sheet (Order.Send a command args) = IsTrue (is_some (command_named sheet command))
+IsDeclared sheet order = Unit {0}
+
+-- of an order of this crate
+abbrev pub step : State → ℕ → (order : Order) → IsLogged order → Answer
+step m actor (Order.Send a command args) kind = send m actor a command args
+step m actor Order.Append kind = append m actor
+step m actor order kind = absurd kind

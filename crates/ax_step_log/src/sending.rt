@@ -1,5 +1,5 @@
-ghost use Rattle.std.specs.Prelude.{◌≡◌, ◌+◌, ◌<◌, ◌^◌, length, IfOk, IsTrue};
-ghost use Rattle.ax_sheet.specs.Sheet.{command_fits};
+ghost use Rattle.std.specs.Prelude.{◌≡◌, ◌+◌, ◌<◌, ◌^◌, length, is_some, IfOk, IsTrue};
+ghost use Rattle.ax_sheet.specs.Sheet.{command_fits, command_named};
 ghost use Rattle.ax_sheet.specs.Decision.{decision};
 ghost use Rattle.ax_state.specs.Positions.{aggregate_state};
 ghost use Rattle.ax_world.specs.WorldTables.{state_of};
@@ -26,12 +26,13 @@ pub(crate) fn send(
     command: &Name,
     args: &Payload,
 ) -> Result<Move, NoMemory>
-    requires { actor < length world.now.tables.setting.actors }
+    requires actor { actor < length world.now.tables.setting.actors }
+    requires command { IsTrue (is_some (command_named world.now.tables.setting.sheet command.now)) }
     ensures { IfOk result (IsMove world.now.tables (send (state_of world.now.tables) actor aggregate.now command.now args.now)) }
 {
     world.facts();
     let Some(command) = world.sheet().command(command) else {
-        return Ok(Move::without_edits(alloc, Reply::NoReservation));
+        unreachable!()
     };
     let decided = decided(alloc, world, aggregate, command, args)?;
     reserve(alloc, world, actor, aggregate, decided)

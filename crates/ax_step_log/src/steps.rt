@@ -1,7 +1,7 @@
 ghost use Rattle.std.specs.Prelude.{◌<◌, length, IfOk};
 ghost use Rattle.ax_world.specs.WorldTables.{state_of};
 ghost use Rattle.ax_world.specs.Moves.{IsMove};
-ghost use Rattle.ax_step_log.specs.Logging.{IsLogged, step};
+ghost use Rattle.ax_step_log.specs.Logging.{IsLogged, IsDeclared, step};
 
 use crate::appending::append;
 use crate::sending::send;
@@ -10,25 +10,26 @@ use ax_values::NoMemory;
 use ax_world::{Move, World};
 use std::alloc::Global;
 
-/// What a send or an append of an actor makes of the world, and what it answers.
+/// What a send or an append of an actor makes of the world.
 ///
 /// A send decides the command for the aggregate's state, which is the fold of all its items, where one that does not apply
-/// leaves the row. GuardFails names the first guard that fails, NoReservation comes where the sheet has no such command, and
-/// LogFull where the cells would pass 200,000: these three change nothing. Else the reply is Reserved: the actor's desk
-/// holds a reservation of new cells at the end of the log, one for each event, for events that go on with the stream as it
-/// is. The cells of an older reservation that are still reserved become void.
+/// leaves the row. GuardFails names the first guard that fails, and LogFull comes where the cells would pass 200,000: these
+/// change nothing. Else the reply is Reserved: the actor's desk holds a reservation of new cells at the end of the log, one
+/// for each event, for events that go on with the stream as it is. The cells of an older reservation that are still
+/// reserved become void.
 ///
 /// An append puts the events of the desk's reservation into its cells. NoReservation comes where there is none, and
 /// VoidedCell, with the first such, where one of its cells is void: these two change nothing. Conflict comes where the
 /// stream no longer has the length that it had at the send, with both lengths: the reserved cells become void. Else the
 /// reply is Appended, with the first number and the count. After both the desk holds no reservation.
 ///
-/// The world itself stays: the edits of the answer are for `World::prepare` and `World::install`. Want of memory is the only
+/// The world itself stays: the edits of the move are for `World::prepare` and `World::install`. Want of memory is the only
 /// error.
 pub fn step(alloc: Global, world: &World, actor: u32, order: &Order) -> Result<Move, NoMemory>
     requires kind { IsLogged order.now }
+    requires command { IsDeclared world.now.tables.setting.sheet order.now }
     requires actor { actor < length world.now.tables.setting.actors }
-    ensures { IfOk result (IsMove world.now.tables (step (state_of world.now.tables) actor order.now)) }
+    ensures { (kind : IsLogged order.now) → IfOk result (IsMove world.now.tables (step (state_of world.now.tables) actor order.now kind)) }
 {
     match order {
         Order::Send {

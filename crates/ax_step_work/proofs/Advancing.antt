@@ -11,16 +11,8 @@ use Rattle.ax_tokens.proofs.Gaps.{canonical-plain_of}
 use Rattle.ax_tokens.proofs.Changes.{covers-advanced, covers-collapsed, is_collapsed-collapsed, collapsed-is}
 use Rattle.ax_laws.proofs.Tests.{both, and-left, and-right}
 use Rattle.ax_state.specs.WellFormed.{IsPlainOver, IsTokenOver, Advanced, with_added}
-use Rattle.ax_state.proofs.Lists.{All-append, All-map}
+use Rattle.ax_state.proofs.Lists.{All-left, All-right, All-append, All-map}
 use Rattle.ax_values.specs.declared.cell.Cell.{Cell}
-
-parts-left : (P : Plain → Type 0) (xs ys : List Plain) → AllByRecursion P (xs ++ ys) → AllByRecursion P xs
-parts-left P [] ys h = tt
-parts-left P (x ∷ xs) ys h = (h.0, parts-left P xs ys h.1)
-
-parts-right : (P : Plain → Type 0) (xs ys : List Plain) → AllByRecursion P (xs ++ ys) → AllByRecursion P ys
-parts-right P [] ys h = h
-parts-right P (x ∷ xs) ys h = parts-right P xs ys h.1
 
 module _ (cells : List Cell) (b : ℕ) (le : b ≤ length cells) where
   has-advanced : (p : Plain) (i : ℕ) → has (advanced_plain cells b p) i ≡ (has p i || settles cells b i)
@@ -45,7 +37,7 @@ module _ (cells : List Cell) (b : ℕ) (le : b ≤ length cells) where
   parts-over (plain p) h = (plain-over p h.0, tt)
   parts-over (merged l u) h =
       All-append (IsPlainOver cells) (parts (advanced cells b l)) (parts (advanced cells b u))
-      (parts-over l (parts-left (IsPlainOver cells) (parts l) (parts u) h)) (parts-over u (parts-right (IsPlainOver cells) (parts l) (parts u) h))
+      (parts-over l (All-left (IsPlainOver cells) (parts l) (parts u) h)) (parts-over u (All-right (IsPlainOver cells) (parts l) (parts u) h))
   parts-over (replay r c) h = (h.0, (plain-over c h.1.0, tt))
 
   joined-parts : (P : Plain → Type 0) (l u : Token) → AllByRecursion P (parts l) → AllByRecursion P (parts u) → AllByRecursion P (parts (joined l u))
@@ -57,7 +49,7 @@ module _ (cells : List Cell) (b : ℕ) (le : b ≤ length cells) where
   collapsed-parts : (P : Plain → Type 0) (t : Token) → AllByRecursion P (parts t) → AllByRecursion P (parts (collapsed t))
   collapsed-parts P (plain p) h = h
   collapsed-parts P (merged l u) h =
-      joined-parts P (collapsed l) (collapsed u) (collapsed-parts P l (parts-left P (parts l) (parts u) h)) (collapsed-parts P u (parts-right P (parts l) (parts u) h))
+      joined-parts P (collapsed l) (collapsed u) (collapsed-parts P l (All-left P (parts l) (parts u) h)) (collapsed-parts P u (All-right P (parts l) (parts u) h))
   collapsed-parts P (replay r c) h = caught-parts P r c h.0 h.1.0
 
   -- ---- gaps and masks
@@ -129,8 +121,8 @@ module _ (cells : List Cell) (b : ℕ) (le : b ≤ length cells) where
   token-with : (t : Token) → AllByRecursion (IsPlainOver cells) (parts t) → with_added (contains added) (length cells) t ≡ advanced cells b t
   token-with (plain p) h = ap plain (plain-with p h.0)
   token-with (merged l u) h =
-      ap (λ x. merged x (with_added (contains added) (length cells) u)) (token-with l (parts-left (IsPlainOver cells) (parts l) (parts u) h))
-      ∙ ap (λ y. merged (advanced cells b l) y) (token-with u (parts-right (IsPlainOver cells) (parts l) (parts u) h))
+      ap (λ x. merged x (with_added (contains added) (length cells) u)) (token-with l (All-left (IsPlainOver cells) (parts l) (parts u) h))
+      ∙ ap (λ y. merged (advanced cells b l) y) (token-with u (All-right (IsPlainOver cells) (parts l) (parts u) h))
   token-with (replay r c) h = ap (replay r) (plain-with c h.1.0)
 
   below-length : (i : ℕ) → settles cells b i ≡ true → i < length cells
@@ -158,8 +150,8 @@ plain-none cells p h =
 pub advanced-none : (cells : List Cell) (t : Token) → AllByRecursion (IsPlainOver cells) (parts t) → advanced cells 0 t ≡ t
 advanced-none cells (plain p) h = ap plain (plain-none cells p h.0)
 advanced-none cells (merged l u) h =
-    ap (λ x. merged x (advanced cells 0 u)) (advanced-none cells l (parts-left (IsPlainOver cells) (parts l) (parts u) h))
-    ∙ ap (merged l) (advanced-none cells u (parts-right (IsPlainOver cells) (parts l) (parts u) h))
+    ap (λ x. merged x (advanced cells 0 u)) (advanced-none cells l (All-left (IsPlainOver cells) (parts l) (parts u) h))
+    ∙ ap (merged l) (advanced-none cells u (All-right (IsPlainOver cells) (parts l) (parts u) h))
 advanced-none cells (replay r c) h = ap (replay r) (plain-none cells c h.1.0)
 
 -- ---- what was covered stays covered

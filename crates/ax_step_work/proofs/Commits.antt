@@ -10,34 +10,39 @@ use Rattle.ax_log.specs.Log.{Stored, events}
 use Rattle.ax_rules.specs.Expr.{Row}
 use Rattle.ax_rules.specs.Rules.{Rules, fold_items, start_row, row_or}
 use Rattle.ax_rules.specs.Why.{why_text}
-use Rattle.ax_segments.specs.Segments.{hash_of, matches}
+use Rattle.ax_segments.specs.Segments.{matches}
+use Rattle.ax_segments.specs.Sequences.{hash_in}
 use Rattle.ax_upcast.specs.Upcast.{KeepsLimit}
 use Rattle.ax_projections.specs.Table.{Entry, look_up, put_entry}
 use Rattle.ax_projections.specs.Items.{Placed, plain_items}
 use Rattle.ax_projections.specs.Rebuild.{or_start}
 use Rattle.ax_claims.specs.Rows.{TokenRow, row_at, put_row}
 use Rattle.ax_state.specs.Every.{AllFrom, count, option_or}
-use Rattle.ax_state.specs.Setting.{is_projection, projection_at}
-use Rattle.ax_state.specs.State.{State, ProcessorState, Desk, Batch, processor_state_at, desk_at, empty_desk, empty_processor}
+use Rattle.ax_state.specs.Setting.{is_projection, projection_at, whole_at}
+use Rattle.ax_state.specs.State.{State, ProcessorState, Desk, Batch, processor_state_at, desk_at}
 use Rattle.ax_state.specs.Answer.{Answer, answer}
 use Rattle.ax_state.specs.Portions.{portions, covered_events, items_in, row_by}
 use Rattle.ax_state.specs.WellFormed.{IsBatchIn}
-use Rattle.ax_state.proofs.Lists.{All-at, AllFrom-set, AllFrom-get}
-use Rattle.ax_world.specs.WorldTables.{WorldTables, ProcessorTables, no_tables, state_of, processor_tables_at}
-use Rattle.ax_world.specs.EditsApplied.{edit_applied, edits_applied, with_processor_tables, with_state}
+use Rattle.ax_state.proofs.Lists.{AllFrom-set, AllFrom-get}
+use Rattle.ax_state.proofs.Frames.{batch-at}
+use Rattle.ax_state.proofs.Desks.{kept-emptied}
+use Rattle.ax_state.proofs.Grow.{events-few}
+use Rattle.ax_world.specs.WorldTables.{WorldTables, ProcessorTables, no_tables, state_of, processor_tables_at, rows_at}
+use Rattle.ax_world.specs.EditsApplied.{edit_applied, edits_applied, with_state}
 use Rattle.ax_world.specs.Fits.{IsWorld, IsTable, CanMakeAll, is_cells, row_if, folded_row}
 use Rattle.ax_world.specs.Moves.{IsMove}
 use Rattle.ax_world.proofs.OneProcessorChanges.{map_set, set_same}
 use Rattle.ax_world.proofs.StepMoves.{unmoved, moved}
 use Rattle.ax_world.proofs.Projections.{projection-within}
 use Rattle.ax_world.proofs.ProcessorStates.{get-at, processor_state-place}
-use Rattle.ax_step_work.specs.Working.{Failure, first_failure, share_of, present_row, batch_items, installed, committed, commit_over, with_batch}
-use Rattle.ax_step_work.specs.Handling.{Progress, nothing, first_of, present, handled, IsFitting, row_edits, stored_or}
-use Rattle.ax_step_work.proofs.CommitKept.{kept-emptied, kept-installed, added, row-after, present-is, IsAdded}
+use Rattle.ax_step_work.specs.Working.{Failure, first_failure, share_of, present_row, batch_items, items_of_batch, installed, committed, commit_over, with_batch}
+use Rattle.ax_step_work.specs.Handling.{Progress, nothing, first_of, present, handled, IsFitting, row_edits, stored_or, stored, install_edits, install_move}
+use Rattle.ax_step_work.proofs.CommitKept.{kept-installed, added, row-after, present-is, IsAdded}
+use Rattle.ax_step_work.proofs.NotWhole.{not-whole}
 use Rattle.ax_step_work.proofs.Folding.{row-now}
 use Rattle.ax_step_work.proofs.Handled.{length-put, fitting-items}
 use Rattle.ax_step_work.proofs.Outcomes.{Stands, Outcome, stands-first, outcome}
-use Rattle.ax_step_work.proofs.Tables.{no-items, events-few, rows-few, covered-few, batch-few, folded-length, put_entries, look-puts}
+use Rattle.ax_step_work.proofs.Tables.{no-items, rows-few, covered-few, batch-few, folded-length, put_entries, look-puts}
 use Rattle.ax_rules.specs.declared.cause.Cause.{Cause}
 use Rattle.ax_rules.specs.declared.why.Why.{Why}
 use Rattle.ax_journal.specs.declared.reply.Reply.{Reply}
@@ -72,6 +77,9 @@ count-rows : (p : ℕ) (es : List Entry) (fs : List Edit) → count is_cells (ro
 count-rows p [] fs = refl
 count-rows p (e ∷ es) fs = let k : count is_cells (row_edits p es ++ fs) ≡ count is_cells fs = count-rows p es fs in omega (arith, k)
 
+abbrev with_processor_tables : ℕ → ProcessorTables → WorldTables → WorldTables
+with_processor_tables p x w = record w { processor_tables = slice_set w.processor_tables p x }
+
 abbrev with_table : List Entry → ProcessorTables → ProcessorTables
 with_table t x = record x { table = t }
 
@@ -104,7 +112,7 @@ module _ (w : WorldTables) (actor : ℕ) (b : Batch) (h : IsWorld w) (mine : (de
   m = state_of w
 
   in-batch : IsBatchIn w.setting w.cells m.processor_states b
-  in-batch = subst (λ o. IfSome o (IsBatchIn w.setting w.cells m.processor_states)) mine (All-at (λ d. IfSome d.batch (IsBatchIn w.setting w.cells m.processor_states)) w.desks actor empty_desk h.state.batches tt)
+  in-batch = subst (λ o. IfSome o (IsBatchIn w.setting w.cells m.processor_states)) mine (batch-at m actor h.state)
 
   pub batch-declared : is_projection w.setting b.processor ≡ true
   batch-declared = in-batch.declared
@@ -135,25 +143,26 @@ module _ (w : WorldTables) (actor : ℕ) (b : Batch) (h : IsWorld w) (mine : (de
   abbrev es : List Stored
   es = events w.cells
 
-  at-processor_state : slice_get m.processor_states b.processor ≡ Some (processor_state_at m b.processor)
-  at-processor_state = let l : length (map (λ (x : ProcessorTables). x.processor_state) w.processor_tables) ≡ length w.processor_tables = length-map w.processor_tables (λ x. x.processor_state) in let k : b.processor < length w.processor_tables = batch-within in get-at empty_processor m.processor_states b.processor (omega arith)
+  abbrev whole : Option Name
+  whole = whole_at w.setting b.processor
 
-  there : slice_get m.processor_states b.processor ≡ Some x.processor_state
-  there = at-processor_state ∙ ap Some (processor_state-place w b.processor)
+  -- the token rows are those of the state
+  same-state : processor_state_at m b.processor ≡ x.processor_state
+  same-state = processor_state-place w b.processor
 
   -- of the kept rows
   abbrev n : Name → ℕ
-  n a = length (items_in chain (covered_events (portions x.processor_state.rows) es) a)
+  n a = length (items_in chain (covered_events whole (portions x.processor_state.rows) es) a)
 
   abbrev row_now : Name → Result Row Cause
-  row_now a = row_by rules chain (covered_events (portions x.processor_state.rows) es) None [] a
+  row_now a = row_by rules chain (covered_events whole (portions x.processor_state.rows) es) None [] a
 
-  kept-is : (a : Name) → look_up a x.table ≡ row_if w.setting b.processor (covered_events (portions x.processor_state.rows) es) x.processor_state a (n a)
-  kept-is a = AllFrom-get (IsTable w.setting es) 0 w.processor_tables b.processor x h.tables (get-at no_tables w.processor_tables b.processor batch-within) b.processor (omega arith) a
+  kept-is : (a : Name) → look_up a x.table ≡ row_if w.setting b.processor (covered_events whole (portions x.processor_state.rows) es) x.processor_state a (n a)
+  kept-is a = AllFrom-get (IsTable w.setting es) 0 w.processor_tables b.processor x h.tables (get-at no_tables w.processor_tables b.processor batch-within) b.processor (omega arith) batch-declared a
 
   no-row : (a : Name) → n a ≡ 0 → row_now a ≡ Ok (start_row rules.fields)
   no-row a e =
-      row-now rules chain (covered_events (portions x.processor_state.rows) es) a ∙ ap (λ ys. fold_items rules (plain_items ys)) (empty (items_in chain (covered_events (portions x.processor_state.rows) es) a) e)
+      row-now rules chain (covered_events whole (portions x.processor_state.rows) es) a ∙ ap (λ ys. fold_items rules (plain_items ys)) (empty (items_in chain (covered_events whole (portions x.processor_state.rows) es) a) e)
     where
       empty : (ys : List Placed) → length ys ≡ 0 → ys ≡ []
       empty [] e = refl
@@ -170,27 +179,32 @@ module _ (w : WorldTables) (actor : ℕ) (b : Batch) (h : IsWorld w) (mine : (de
 
   pub fitting : KeepsLimit chain → length w.cells ≤ 200000 → IsFitting rules x.table nothing
   fitting few size = record {
-    positions = λ a. (let e : (or_start rules (look_up a x.table)).position ≡ n a = ap (λ (v : Positioned). v.position) (started a) in let k : n a ≤ 1600000 = covered-few chain (portions x.processor_state.rows) a w.cells few size in omega (arith, e, k));
-    fields = λ a. ap (λ (v : Positioned). length v.row) (started a) ∙ folded-length rules chain (covered_events (portions x.processor_state.rows) es) a;
+    positions = λ a. (let e : (or_start rules (look_up a x.table)).position ≡ n a = ap (λ (v : Positioned). v.position) (started a) in let k : n a ≤ 1600000 = covered-few whole chain (portions x.processor_state.rows) a w.cells few size in omega (arith, e, k));
+    fields = λ a. ap (λ (v : Positioned). length v.row) (started a) ∙ folded-length rules chain (covered_events whole (portions x.processor_state.rows) es) a;
     rows = omega arith;
   }
 
   rows-bound : IsDistinct same_name (map (λ e. e.name) x.table) → length w.cells ≤ 200000 → length x.table ≤ 200000
   rows-bound d size =
-      let k : length x.table ≤ length es = rows-few es x.table d (λ a none. kept-is a ∙ ap (λ ys. row_if w.setting b.processor (covered_events (portions x.processor_state.rows) es) x.processor_state a (length ys)) (no-items chain (portions x.processor_state.rows) a es none)) in
+      let k : length x.table ≤ length es = rows-few es x.table d (λ a none. kept-is a ∙ ap (λ ys. row_if w.setting b.processor (covered_events whole (portions x.processor_state.rows) es) x.processor_state a (length ys)) (no-items whole chain (portions x.processor_state.rows) a es none)) in
       let l : length es ≤ length w.cells = events-few 0 w.cells in omega arith
 
   -- ---- a batch whose row is under its fence
 
   module _ (r : TokenRow) (found : row_at b.segment x.processor_state.rows ≡ Some r) (fence : r.fence ≡ b.fence) where
+    found-there : row_at b.segment (processor_state_at m b.processor).rows ≡ Some r
+    found-there = ap (λ (s : ProcessorState). row_at b.segment s.rows) same-state ∙ found
+
     present-here : (a : Name) → present_row m b.processor a ≡ row_or (start_row rules.fields) (row_now a)
-    present-here a = present-is m actor b x.processor_state r there found fence mine h.setting.actors.differ h.state a
+    present-here a =
+        present-is m actor b r found-there fence mine h.setting.actors.differ h.state a
+        ∙ ap (λ (s : ProcessorState). row_or (start_row rules.fields) (row_by rules chain (covered_events whole (portions s.rows) es) None [] a)) same-state
 
     first-stands : Stands rules x.table (present_row m b.processor) [] nothing
     first-stands = stands-first rules x.table (present_row m b.processor) (λ a. ap (λ (v : Positioned). v.row) (started a) ∙ sym (present-here a))
 
     abbrev xs : List Placed
-    xs = batch_items chain b es
+    xs = items_of_batch m b
 
     abbrev outcome-of : Result Progress Failure → Type 0
     outcome-of o = Outcome rules x.table (present_row m b.processor) [] xs o
@@ -220,7 +234,7 @@ module _ (w : WorldTables) (actor : ℕ) (b : Batch) (h : IsWorld w) (mine : (de
       later = record { processor_state = record x.processor_state { rows = rows }; table = put_entries s.rows x.table }
 
       abbrev changes : List Edit
-      changes = row_edits b.processor s.rows ++ Edit.SetRows b.processor rows ∷ Edit.SetDesk actor emptied ∷ []
+      changes = install_edits b.processor s.rows rows actor (desk_at m actor)
 
       all-apply : first_failure rules (present_row m b.processor) [] xs ≡ None
       all-apply = (came (Ok s) done).0
@@ -228,30 +242,32 @@ module _ (w : WorldTables) (actor : ℕ) (b : Batch) (h : IsWorld w) (mine : (de
       stands : Stands rules x.table (present_row m b.processor) xs s
       stands = (came (Ok s) done).1
 
-      more : IsAdded chain es x.processor_state.rows rows b
-      more = added m actor b x.processor_state r there found fence mine h.setting.actors.differ h.state
+      more : IsAdded whole chain es x.processor_state.rows rows b
+      more = subst (λ (s : ProcessorState). IsAdded whole chain es s.rows (put_row new s.rows) b) same-state (added m actor b r found-there fence mine h.setting.actors.differ h.state)
 
       -- how many items are covered then
-      now-covered : (a : Name) → length (items_in chain (covered_events (portions rows) es) a) ≡ n a + length (share_of a xs)
-      now-covered a = by (matches b.segment (hash_of a)) refl
+      now-covered : (a : Name) → length (items_in chain (covered_events whole (portions rows) es) a) ≡ n a + length (share_of a xs)
+      now-covered a = by (matches b.segment (hash_in whole a)) refl
         where
-          by : (c : Bool) → matches b.segment (hash_of a) ≡ c → length (items_in chain (covered_events (portions rows) es) a) ≡ length (items_in chain (covered_events (portions x.processor_state.rows) es) a) + length (share_of a xs)
-          by true e = ap length (more.mine a e) ∙ length-append (items_in chain (covered_events (portions x.processor_state.rows) es) a) (share_of a xs)
-          by false e = let k : length (share_of a xs) ≡ 0 = ap length (more.none a e) in let l : length (items_in chain (covered_events (portions rows) es) a) ≡ length (items_in chain (covered_events (portions x.processor_state.rows) es) a) = ap length (more.others a e) in omega (arith, k, l)
+          by : (c : Bool) → matches b.segment (hash_in whole a) ≡ c → length (items_in chain (covered_events whole (portions rows) es) a) ≡ length (items_in chain (covered_events whole (portions x.processor_state.rows) es) a) + length (share_of a xs)
+          by true e = ap length (more.mine a e) ∙ length-append (items_in chain (covered_events whole (portions x.processor_state.rows) es) a) (share_of a xs)
+          by false e = let k : length (share_of a xs) ≡ 0 = ap length (more.none a e) in let l : length (items_in chain (covered_events whole (portions rows) es) a) ≡ length (items_in chain (covered_events whole (portions x.processor_state.rows) es) a) = ap length (more.others a e) in omega (arith, k, l)
 
-      row-then : (a : Name) → row_by rules chain (covered_events (portions rows) es) None [] a ≡ Ok (present rules x.table s.rows a).row
-      row-then a = row-after m actor b x.processor_state r there found fence mine h.setting.actors.differ h.state a ∙ stands.behind a
+      row-then : (a : Name) → row_by rules chain (covered_events whole (portions rows) es) None [] a ≡ Ok (present rules x.table s.rows a).row
+      row-then a =
+          ap (λ (s : ProcessorState). row_by rules chain (covered_events whole (portions (put_row new s.rows)) es) None [] a) (sym same-state)
+          ∙ row-after m actor b r found-there fence mine h.setting.actors.differ h.state a ∙ stands.behind a
 
       abbrev folded_then : Name → ℕ → Row → Option Positioned
       folded_then a k row = if nat_lt 0 k then Some (record { position = k; row = row }) else None
 
-      is-folded : (a : Name) → folded_row w.setting b.processor (covered_events (portions rows) es) later.processor_state a ≡ folded_then a (n a + length (share_of a xs)) (present rules x.table s.rows a).row
+      is-folded : (a : Name) → folded_row w.setting b.processor (covered_events whole (portions rows) es) later.processor_state a ≡ folded_then a (n a + length (share_of a xs)) (present rules x.table s.rows a).row
       is-folded a =
-          ap (λ o. folded_then a (length (items_in chain (covered_events (portions rows) es) a)) (row_or (start_row rules.fields) o)) (row-then a)
+          ap (λ o. folded_then a (length (items_in chain (covered_events whole (portions rows) es) a)) (row_or (start_row rules.fields) o)) (row-then a)
           ∙ ap (λ k. folded_then a k (present rules x.table s.rows a).row) (now-covered a)
 
       table-then : IsTable w.setting es b.processor later
-      table-then a = look-puts a s.rows x.table names ∙ by (look_up a s.rows) refl ∙ sym (is-folded a)
+      table-then projection a = look-puts a s.rows x.table names ∙ by (look_up a s.rows) refl ∙ sym (is-folded a)
         where
           by : (o : Option Positioned) → look_up a s.rows ≡ o → first_of o (look_up a x.table) ≡ folded_then a (n a + length (share_of a xs)) (present rules x.table s.rows a).row
           by (Some v) e =
@@ -296,14 +312,14 @@ module _ (w : WorldTables) (actor : ℕ) (b : Batch) (h : IsWorld w) (mine : (de
           let fit = fitting-items rules x.table (plain_items xs) nothing s (fitting few size) done in
           let k : length s.rows ≤ s.items = fit.0.rows in
           let l : s.items ≡ length xs = stands.items in
-          let n : length xs ≤ 1600000 = batch-few chain b w.cells few size in omega arith
+          let n : length xs ≤ 1600000 = batch-few whole chain b w.cells few size in omega arith
 
       pub installed-move : actor < length w.desks → IsDistinct same_name (map (λ e. e.name) x.table) → length w.cells ≤ 200000 → KeepsLimit chain
           → IsMove w (commit_over m actor b (row_at b.segment (processor_state_at m b.processor).rows)) (record { edits = changes; reply = Reply.Committed s.items 0 0; report = [] })
       installed-move lt distinct size few =
           subst (λ a. IsMove w a (record { edits = changes; reply = Reply.Committed s.items 0 0; report = [] })) (sym (over-is ∙ ap (committed m actor b r) all-apply))
           (moved w changes (answer (installed m actor b r) (Reply.Committed (length xs) 0 0)) (Reply.Committed s.items 0 0) h (let k : count is_cells changes ≡ 0 = count-rows b.processor s.rows (Edit.SetRows b.processor rows ∷ Edit.SetDesk actor emptied ∷ []) in omega (arith, k))
-          (can-all lt (rows-bound distinct size) (rows-within few size)) state-is (kept-installed m actor b x.processor_state r there found fence mine h.setting.actors.differ h.state all-apply)
+          (can-all lt (rows-bound distinct size) (rows-within few size)) state-is (kept-installed m actor b r found-there fence mine h.setting.actors.differ h.state all-apply)
           (ap (λ (u : WorldTables). u.setting) made-is) (subst (λ (u : WorldTables). AllFrom (IsTable w.setting (events u.cells)) 0 u.processor_tables) (sym made-is) tables-then) (ap (λ k. Reply.Committed k 0 0) stands.items) refl)
 
 -- ---- what the calls answered
@@ -330,14 +346,14 @@ stale-over m actor now b old (Some r) reply e = by (r.fence == b.fence) refl e
     by true k e = absurd (cc)
     by false k e =
         let is : reply ≡ Reply.Stale b.fence (Some r.fence) = cc in
-        ap (λ c. if c then committed m actor b r (first_failure (projection_at m.setting b.processor) (present_row m b.processor) [] (batch_items m.setting.sheet.chain b (events m.cells))) else answer (with_batch actor None m) (Reply.Stale b.fence (Some r.fence))) k
+        ap (λ c. if c then committed m actor b r (first_failure (projection_at m.setting b.processor) (present_row m b.processor) [] (items_of_batch m b)) else answer (with_batch actor None m) (Reply.Stale b.fence (Some r.fence))) k
         ∙ ap (answer (with_batch actor None m)) (sym is)
 
 module _ (w : WorldTables) (actor : ℕ) (b : Batch) (h : IsWorld w) (mine : (desk_at (state_of w) actor).batch ≡ Some b) where
   abbrev over : Answer
   over = commit_over (state_of w) actor b (row_at b.segment (processor_state_at (state_of w) b.processor).rows)
 
-  pub stale-answer : (now : ℕ) (old : List TokenRow) (reply : Reply) (mv : Move) → actor < length w.desks → old ≡ (processor_tables_at w b.processor).processor_state.rows → Err reply ≡ stored_or now b old (row_at b.segment old)
+  pub stale-answer : (now : ℕ) (old : List TokenRow) (reply : Reply) (mv : Move) → actor < length w.desks → old ≡ rows_at w b.processor → Err reply ≡ stored now b old
       → mv ≡ record { edits = Edit.SetDesk actor (record (desk_at (state_of w) actor) { batch = None }) ∷ []; reply = reply; report = [] } → IsMove w over mv
   stale-answer now old reply mv lt rows e is =
       subst (IsMove w over) (sym is)
@@ -348,22 +364,24 @@ module _ (w : WorldTables) (actor : ℕ) (b : Batch) (h : IsWorld w) (mine : (de
     pub fits-read : KeepsLimit us → IsFitting rs table nothing
     fits-read few = rw (rules_are, table_is, at) (fitting w actor b h mine (subst KeepsLimit chain_is few) h.state.log.size)
 
-    module _ (cs : List Cell) (cells_are : cs ≡ w.cells) (rows : List TokenRow) (stored : Ok rows ≡ stored_or w.clock b (processor_tables_at w b.processor).processor_state.rows (row_at b.segment (processor_tables_at w b.processor).processor_state.rows)) where
+    module _ (cs : List Cell) (cells_are : cs ≡ w.cells) (rows : List TokenRow) (kept : Ok rows ≡ stored w.clock b (rows_at w b.processor)) where
       was-stored : IsStored w.clock b (processor_tables_at w b.processor).processor_state.rows (row_at b.segment (processor_tables_at w b.processor).processor_state.rows) rows
-      was-stored = stored-rows w.clock b (processor_tables_at w b.processor).processor_state.rows (row_at b.segment (processor_tables_at w b.processor).processor_state.rows) rows stored
+      was-stored = stored-rows w.clock b (processor_tables_at w b.processor).processor_state.rows (row_at b.segment (processor_tables_at w b.processor).processor_state.rows) rows kept
 
-      same-handled : handled (projection_at w.setting b.processor) (processor_tables_at w b.processor).table (plain_items (batch_items w.setting.sheet.chain b (events w.cells))) nothing ≡ handled rs table (plain_items (batch_items us b (events cs))) nothing
-      same-handled = rw (rules_are, table_is, at, chain_is, cells_are) refl
+      same-handled : handled (projection_at w.setting b.processor) (processor_tables_at w b.processor).table (plain_items (items_of_batch (state_of w) b)) nothing ≡ handled rs table (plain_items (batch_items None us b (events cs))) nothing
+      same-handled =
+          ap (λ o. handled (projection_at w.setting b.processor) (processor_tables_at w b.processor).table (plain_items (batch_items o w.setting.sheet.chain b (events w.cells))) nothing) (not-whole w.setting b.processor)
+          ∙ rw (rules_are, table_is, at, chain_is, cells_are) refl
 
-      pub failed-answer : (f : Failure) (mv : Move) → Err f ≡ handled rs table (plain_items (batch_items us b (events cs))) nothing
+      pub failed-answer : (f : Failure) (mv : Move) → Err f ≡ handled rs table (plain_items (batch_items None us b (events cs))) nothing
           → mv ≡ record { edits = []; reply = Reply.NotApplied f.item (why_text (Why.Failed f.cause)); report = [] } → IsMove w over mv
       failed-answer f mv e is = subst (IsMove w over) (sym is) (failed-move w actor b h mine was-stored.row was-stored.found was-stored.fence f (same-handled ∙ sym e))
 
-      pub installed-answer : (s : Progress) (mv : Move) → Ok s ≡ handled rs table (plain_items (batch_items us b (events cs))) nothing → KeepsLimit us → IsDistinct same_name (map (λ e. e.name) table) → IsDistinct same_name (map (λ e. e.name) s.rows)
+      pub installed-answer : (s : Progress) (mv : Move) → Ok s ≡ handled rs table (plain_items (batch_items None us b (events cs))) nothing → KeepsLimit us → IsDistinct same_name (map (λ e. e.name) table) → IsDistinct same_name (map (λ e. e.name) s.rows)
           → actor < length w.desks
-          → mv ≡ record { edits = row_edits p s.rows ++ Edit.SetRows p rows ∷ Edit.SetDesk actor (record (desk_at (state_of w) actor) { batch = None }) ∷ []; reply = Reply.Committed s.items 0 0; report = [] } → IsMove w over mv
+          → mv ≡ install_move p s rows actor (desk_at (state_of w) actor) → IsMove w over mv
       installed-answer s mv e few distinct names lt is =
-          let with_edits : ℕ → List TokenRow → Move = (λ q ts. record { edits = row_edits q s.rows ++ Edit.SetRows q ts ∷ Edit.SetDesk actor (record (desk_at (state_of w) actor) { batch = None }) ∷ []; reply = Reply.Committed s.items 0 0; report = [] }) in
+          let with_edits : ℕ → List TokenRow → Move = (λ q ts. install_move q s ts actor (desk_at (state_of w) actor)) in
           subst (IsMove w over) (sym is)
           (subst (λ (q : ℕ). IsMove w over (with_edits q rows)) (sym at)
           (subst (λ (ts : List TokenRow). IsMove w over (with_edits b.processor ts)) (sym was-stored.rows_are)

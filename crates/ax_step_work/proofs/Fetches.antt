@@ -7,20 +7,20 @@ use Rattle.ax_segments.specs.Segments.{Segment}
 use Rattle.ax_tokens.specs.Tokens.{Token}
 use Rattle.ax_claims.specs.Rows.{TokenRow, row_at}
 use Rattle.ax_state.specs.Every.{option_or}
-use Rattle.ax_state.specs.Setting.{is_projection}
-use Rattle.ax_state.specs.State.{ProcessorState, Desk, Batch, Held, desk_at, processor_state_at, empty_desk, empty_processor, with_desk}
-use Rattle.ax_state.specs.Holding.{held_fence, held_check, checked}
+use Rattle.ax_state.specs.Setting.{is_projection, whole_at}
+use Rattle.ax_state.specs.State.{ProcessorState, Desk, Batch, Held, desk_at, processor_state_at, empty_desk, with_desk}
 use Rattle.ax_state.specs.Answer.{Answer}
 use Rattle.ax_state.proofs.RowPuts.{found-row}
-use Rattle.ax_world.specs.WorldTables.{WorldTables, state_of, processor_tables_at}
+use Rattle.ax_world.specs.Holding.{held_fence, held_check, checked}
+use Rattle.ax_world.specs.WorldTables.{WorldTables, state_of, processor_tables_at, rows_at}
 use Rattle.ax_world.specs.EditsApplied.{edits_applied}
 use Rattle.ax_world.specs.Fits.{IsWorld}
 use Rattle.ax_world.specs.Moves.{IsMove}
 use Rattle.ax_world.proofs.StepMoves.{unmoved, moved}
-use Rattle.ax_world.proofs.Projections.{projection-within}
-use Rattle.ax_world.proofs.ProcessorStates.{get-at, processor_state-place}
+use Rattle.ax_world.proofs.ProcessorStates.{processor_state-place}
 use Rattle.ax_step_work.specs.Working.{is_fetched, batch_of, fetched, fetch_at, fetched_token}
 use Rattle.ax_step_work.proofs.FetchKept.{kept-fetched}
+use Rattle.ax_step_work.proofs.NotWhole.{not-whole}
 use Rattle.ax_world.specs.declared.edit.Edit.{Edit}
 use Rattle.ax_journal.specs.declared.reply.Reply.{Reply}
 use Rattle.ax_values.specs.declared.cell.Cell.{Cell}
@@ -32,19 +32,19 @@ ok-map (Err e) P Q f h = tt
 -- ---- the batch
 
 pub fetch-move : (w : WorldTables) (actor p most : ℕ) (row : TokenRow) (old new : Desk) (t n : Token) (cells : List Cell) (records : ℕ) → IsWorld w → IsTrue (is_projection w.setting p) → actor < length w.setting.actors
-    → row_at row.segment (processor_tables_at w p).processor_state.rows ≡ Some row → held_fence p row.segment (desk_at (state_of w) actor).held ≡ Some row.fence → slice_get w.desks actor ≡ Some old → cells ≡ w.cells → t ≡ row.token
-    → n ≡ fetched_token row.segment row.token cells most → new ≡ record old { batch = Some (record { processor = p; segment = row.segment; fence = row.fence; old = t; new = n }) }
-    → records ≡ length (filter (is_fetched row.segment row.token n) (events cells))
+    → row_at row.segment (rows_at w p) ≡ Some row → held_fence p row.segment (desk_at (state_of w) actor).held ≡ Some row.fence → slice_get w.desks actor ≡ Some old → cells ≡ w.cells → t ≡ row.token
+    → n ≡ fetched_token None row.segment row.token cells most → new ≡ record old { batch = Some (record { processor = p; segment = row.segment; fence = row.fence; old = t; new = n }) }
+    → records ≡ length (filter (is_fetched None row.segment row.token n) (events cells))
     → IsMove w (fetched (state_of w) actor (batch_of (state_of w) p row.segment most row)) (record { edits = Edit.SetDesk actor new ∷ []; reply = Reply.Fetched records; report = [] })
 fetch-move w actor p most row old new t n cells records h projection lt found held at cells_are t_is n_is new_is records_are =
     moved w (Edit.SetDesk actor new ∷ []) (fetched (state_of w) actor b) (Reply.Fetched records) h (omega arith) ((let seats : length w.desks ≡ length w.setting.actors = h.state.actors in omega arith), tt) state
-    (kept-fetched (state_of w) actor p row.segment most (processor_tables_at w p).processor_state row processor_state found h.state projection held) refl h.tables reply refl
+    (kept-fetched (state_of w) actor p row.segment most row (ap (λ (x : ProcessorState). row_at row.segment x.rows) (processor_state-place w p) ∙ found) h.state projection held) refl h.tables reply refl
   where
     b : Batch
     b = batch_of (state_of w) p row.segment most row
 
-    n_new : n ≡ fetched_token row.segment row.token w.cells most
-    n_new = n_is ∙ ap (λ cs. fetched_token row.segment row.token cs most) cells_are
+    n_new : n ≡ fetched_token (whole_at w.setting p) row.segment row.token w.cells most
+    n_new = n_is ∙ ap (λ cs. fetched_token None row.segment row.token cs most) cells_are ∙ ap (λ o. fetched_token o row.segment row.token w.cells most) (sym (not-whole w.setting p))
 
     desk_is : desk_at (state_of w) actor ≡ old
     desk_is = ap (option_or empty_desk) at
@@ -58,14 +58,10 @@ fetch-move w actor p most row old new t n cells records h projection lt found he
     state : state_of (edits_applied (Edit.SetDesk actor new ∷ []) w) ≡ with_desk actor (record (desk_at (state_of w) actor) { batch = Some b }) (state_of w)
     state = ap (λ d. with_desk actor d (state_of w)) new_desk
 
-    processor_state : slice_get (state_of w).processor_states p ≡ Some (processor_tables_at w p).processor_state
-    processor_state =
-        let l : length (state_of w).processor_states ≡ length w.setting.processors = h.state.declared in
-        let lt : p < length w.setting.processors = projection-within w.setting.processors p projection in
-        get-at empty_processor (state_of w).processor_states p (omega arith) ∙ ap Some (processor_state-place w p)
-
-    reply : Reply.Fetched records ≡ Reply.Fetched (length (filter (is_fetched row.segment row.token b.new) (events w.cells)))
-    reply = ap Reply.Fetched (records_are ∙ ap (λ cs. length (filter (is_fetched row.segment row.token n) (events cs))) cells_are ∙ ap (λ n. length (filter (is_fetched row.segment row.token n) (events w.cells))) n_new)
+    reply : Reply.Fetched records ≡ Reply.Fetched (length (filter (is_fetched (whole_at w.setting p) row.segment row.token b.new) (events w.cells)))
+    reply = ap Reply.Fetched (records_are ∙ ap (λ cs. length (filter (is_fetched None row.segment row.token n) (events cs))) cells_are
+        ∙ ap (λ o. length (filter (is_fetched o row.segment row.token n) (events w.cells))) (sym (not-whole w.setting p))
+        ∙ ap (λ n. length (filter (is_fetched (whole_at w.setting p) row.segment row.token n) (events w.cells))) n_new)
 
 -- ---- refusals
 
@@ -86,7 +82,7 @@ pub held-desk : (w : WorldTables) (actor p : ℕ) (s : Segment) (old : Desk) (he
 held-desk w actor p s old held o at is e = e ∙ ap (held_fence p s) (is ∙ sym (ap (λ x. (option_or empty_desk x).held) at))
 
 pub record IsHeldRow (w : WorldTables) (actor p : ℕ) (s : Segment) (most : ℕ) (row : TokenRow) : Type 0 where
-  pub found : row_at row.segment (processor_tables_at w p).processor_state.rows ≡ Some row
+  pub found : row_at row.segment (rows_at w p) ≡ Some row
   pub held : held_fence p row.segment (desk_at (state_of w) actor).held ≡ Some row.fence
   pub is : fetched (state_of w) actor (batch_of (state_of w) p row.segment most row) ≡ fetch_at (state_of w) actor p s most
 
@@ -98,19 +94,19 @@ held-by (Some f) r h = at (r.fence == f) refl h
     at true e h = let same : f ≡ r.fence = grind (arith, nat_tests, e) in ap Some same
     at false e h = absurd (cc)
 
-pub held-row : (w : WorldTables) (actor p : ℕ) (s : Segment) (most : ℕ) (o : Option ℕ) (x : Option TokenRow) (row : TokenRow) → o ≡ held_fence p s (desk_at (state_of w) actor).held → x ≡ row_at s (processor_tables_at w p).processor_state.rows → x ≡ Some row
+pub held-row : (w : WorldTables) (actor p : ℕ) (s : Segment) (most : ℕ) (o : Option ℕ) (x : Option TokenRow) (row : TokenRow) → o ≡ held_fence p s (desk_at (state_of w) actor).held → x ≡ row_at s (rows_at w p) → x ≡ Some row
     → held_check o x ≡ None → IsHeldRow w actor p s most row
 held-row w actor p s most o x row e f g k = record {
-  found = ap (λ t. row_at t (processor_tables_at w p).processor_state.rows) segment ∙ found;
+  found = ap (λ t. row_at t (rows_at w p)) segment ∙ found;
   held = ap (λ t. held_fence p t (desk_at (state_of w) actor).held) segment ∙ held;
   is = ap (λ t. fetched (state_of w) actor (batch_of (state_of w) p t most row)) segment ∙ sym whole;
 }
   where
-    found : row_at s (processor_tables_at w p).processor_state.rows ≡ Some row
+    found : row_at s (rows_at w p) ≡ Some row
     found = sym f ∙ g
 
     segment : row.segment ≡ s
-    segment = (found-row s (processor_tables_at w p).processor_state.rows row found).2
+    segment = (found-row s (rows_at w p) row found).2
 
     held_is : o ≡ Some row.fence
     held_is = held-by o row (ap (held_check o) (sym g) ∙ k)

@@ -137,28 +137,28 @@ is-failed o f new e = subst (λ o. IsHandled o (Some f) new) (sym e) refl
 
 -- ---- the items of one cell more
 
-module _ (chain : List Upcaster) (b : Batch) where
+module _ (whole : Option Name) (chain : List Upcaster) (b : Batch) where
   abbrev pub left : ℕ → List Cell → List Item
-  left k cells = plain_items (batch_items chain b (events_from k cells))
+  left k cells = plain_items (batch_items whole chain b (events_from k cells))
 
-  cell-first : (k : ℕ) (c : Cell) (cells : List Cell) → left k (c ∷ cells) ≡ cell_items chain b k c ++ left (suc k) cells
+  cell-first : (k : ℕ) (c : Cell) (cells : List Cell) → left k (c ∷ cells) ≡ cell_items whole chain b k c ++ left (suc k) cells
   cell-first k (Cell.Reserved a s w t) cells = refl
   cell-first k Cell.Void cells = refl
-  cell-first k (Cell.Event r) cells = at (is_fetched b.segment b.old b.new (record { index = k; record_of = r }))
+  cell-first k (Cell.Event r) cells = at (is_fetched whole b.segment b.old b.new (record { index = k; record_of = r }))
     where
-      at : (c : Bool) → plain_items (flat_map (placed_items chain) (if c then record { index = k; record_of = r } ∷ fetched_events b (events_from (suc k) cells) else fetched_events b (events_from (suc k) cells)))
+      at : (c : Bool) → plain_items (flat_map (placed_items chain) (if c then record { index = k; record_of = r } ∷ fetched_events whole b (events_from (suc k) cells) else fetched_events whole b (events_from (suc k) cells)))
           ≡ (if c then upcast chain r else []) ++ left (suc k) cells
-      at true = map-append (λ (x : Placed). x.item) (map (placed k) (upcast chain r)) (flat_map (placed_items chain) (fetched_events b (events_from (suc k) cells))) ∙ ap (λ xs. xs ++ left (suc k) cells) (plain-placed k (upcast chain r))
+      at true = map-append (λ (x : Placed). x.item) (map (placed k) (upcast chain r)) (flat_map (placed_items chain) (fetched_events whole b (events_from (suc k) cells))) ∙ ap (λ xs. xs ++ left (suc k) cells) (plain-placed k (upcast chain r))
       at false = refl
 
   -- first is the index of the first of the cells
-  pub next-cell : (first : ℕ) (cells : List Cell) (i : ℕ) (c : Cell) → i < length cells → c ≡ get_or cells i c → left (first + i) (drop i cells) ≡ cell_items chain b (first + i) c ++ left (first + (i + 1)) (drop (i + 1) cells)
+  pub next-cell : (first : ℕ) (cells : List Cell) (i : ℕ) (c : Cell) → i < length cells → c ≡ get_or cells i c → left (first + i) (drop i cells) ≡ cell_items whole chain b (first + i) c ++ left (first + (i + 1)) (drop (i + 1) cells)
   next-cell first cells i c l e =
       let next : i + 1 ≡ suc i = omega arith in
       let more : first + (i + 1) ≡ suc (first + i) = omega arith in
       ap (λ cs. left (first + i) cs) (drop-cons cells i c l ∙ ap (λ d. d ∷ drop (suc i) cells) (sym e)) ∙ cell-first (first + i) c (drop (suc i) cells)
-      ∙ ap (λ n. cell_items chain b (first + i) c ++ left (suc (first + i)) (drop n cells)) (sym next)
-      ∙ ap (λ n. cell_items chain b (first + i) c ++ left n (drop (i + 1) cells)) (sym more)
+      ∙ ap (λ n. cell_items whole chain b (first + i) c ++ left (suc (first + i)) (drop n cells)) (sym next)
+      ∙ ap (λ n. cell_items whole chain b (first + i) c ++ left n (drop (i + 1) cells)) (sym more)
 
 -- ---- steps of the loops
 
@@ -173,28 +173,28 @@ module _ (rules : Rules) (kept : List Entry) where
         (let k : new.items ≡ s.items + 1 = fit.1 in omega (arith, k, count, length-drop i xs, length-drop (i + 1) xs)),
       )
 
-  module _ (chain : List Upcaster) (b : Batch) where
-    cells-split : (first : ℕ) (cells : List Cell) (i : ℕ) (c : Cell) (s : Progress) (items : List Item) → i < length cells → c ≡ get_or cells i c → items ≡ cell_items chain b (first + i) c
-        → handled rules kept (left chain b (first + i) (drop i cells)) s ≡ and_on (handled rules kept items s) (λ t. handled rules kept (left chain b (first + (i + 1)) (drop (i + 1) cells)) t)
+  module _ (whole : Option Name) (chain : List Upcaster) (b : Batch) where
+    cells-split : (first : ℕ) (cells : List Cell) (i : ℕ) (c : Cell) (s : Progress) (items : List Item) → i < length cells → c ≡ get_or cells i c → items ≡ cell_items whole chain b (first + i) c
+        → handled rules kept (left whole chain b (first + i) (drop i cells)) s ≡ and_on (handled rules kept items s) (λ t. handled rules kept (left whole chain b (first + (i + 1)) (drop (i + 1) cells)) t)
     cells-split first cells i c s items lt e is =
-        ap (λ xs. handled rules kept xs s) (next-cell chain b first cells i c lt e ∙ ap (λ xs. xs ++ left chain b (first + (i + 1)) (drop (i + 1) cells)) (sym is))
-        ∙ handled-append rules kept items (left chain b (first + (i + 1)) (drop (i + 1) cells)) s
+        ap (λ xs. handled rules kept xs s) (next-cell whole chain b first cells i c lt e ∙ ap (λ xs. xs ++ left whole chain b (first + (i + 1)) (drop (i + 1) cells)) (sym is))
+        ∙ handled-append rules kept items (left whole chain b (first + (i + 1)) (drop (i + 1) cells)) s
 
-    pub cell-step : (first : ℕ) (cells : List Cell) (i : ℕ) (c : Cell) (s new : Progress) (a : Option Failure) (items : List Item) (o : Result Progress Failure) → i < length cells → c ≡ get_or cells i c → items ≡ cell_items chain b (first + i) c → length items ≤ 8
-        → a ≡ None → IsHandled (handled rules kept items s) a new → IsFitting rules kept s → handled rules kept (left chain b (first + i) (drop i cells)) s ≡ o → s.items ≤ 8 * i
-        → (handled rules kept (left chain b (first + (i + 1)) (drop (i + 1) cells)) new ≡ o) × IsFitting rules kept new × (new.items ≤ 8 * (i + 1))
+    pub cell-step : (first : ℕ) (cells : List Cell) (i : ℕ) (c : Cell) (s new : Progress) (a : Option Failure) (items : List Item) (o : Result Progress Failure) → i < length cells → c ≡ get_or cells i c → items ≡ cell_items whole chain b (first + i) c → length items ≤ 8
+        → a ≡ None → IsHandled (handled rules kept items s) a new → IsFitting rules kept s → handled rules kept (left whole chain b (first + i) (drop i cells)) s ≡ o → s.items ≤ 8 * i
+        → (handled rules kept (left whole chain b (first + (i + 1)) (drop (i + 1) cells)) new ≡ o) × IsFitting rules kept new × (new.items ≤ 8 * (i + 1))
     cell-step first cells i c s new a items o lt e is few none h fits same count =
         let done : handled rules kept items s ≡ Ok new = was-done (handled rules kept items s) new (subst (λ a. IsHandled (handled rules kept items s) a new) none h) in
         let fit = fitting-items rules kept items s new fits done in (
-          sym (cells-split first cells i c s items lt e is ∙ ap (λ o. and_on o (λ t. handled rules kept (left chain b (first + (i + 1)) (drop (i + 1) cells)) t)) done) ∙ same,
+          sym (cells-split first cells i c s items lt e is ∙ ap (λ o. and_on o (λ t. handled rules kept (left whole chain b (first + (i + 1)) (drop (i + 1) cells)) t)) done) ∙ same,
           fit.0,
           (let k : new.items ≡ s.items + length items = fit.1 in omega (arith, k, count, few)),
         )
 
-    pub cell-failed : (first : ℕ) (cells : List Cell) (i : ℕ) (c : Cell) (s new : Progress) (a : Option Failure) (f : Failure) (items : List Item) (o : Result Progress Failure) → i < length cells → c ≡ get_or cells i c → items ≡ cell_items chain b (first + i) c
-        → a ≡ Some f → IsHandled (handled rules kept items s) a new → handled rules kept (left chain b (first + i) (drop i cells)) s ≡ o → Err f ≡ o
+    pub cell-failed : (first : ℕ) (cells : List Cell) (i : ℕ) (c : Cell) (s new : Progress) (a : Option Failure) (f : Failure) (items : List Item) (o : Result Progress Failure) → i < length cells → c ≡ get_or cells i c → items ≡ cell_items whole chain b (first + i) c
+        → a ≡ Some f → IsHandled (handled rules kept items s) a new → handled rules kept (left whole chain b (first + i) (drop i cells)) s ≡ o → Err f ≡ o
     cell-failed first cells i c s new a f items o lt e is some h same =
-        sym (cells-split first cells i c s items lt e is ∙ ap (λ o. and_on o (λ t. handled rules kept (left chain b (first + (i + 1)) (drop (i + 1) cells)) t)) (was-failed (handled rules kept items s) f new (subst (λ a. IsHandled (handled rules kept items s) a new) some h))) ∙ same
+        sym (cells-split first cells i c s items lt e is ∙ ap (λ o. and_on o (λ t. handled rules kept (left whole chain b (first + (i + 1)) (drop (i + 1) cells)) t)) (was-failed (handled rules kept items s) f new (subst (λ a. IsHandled (handled rules kept items s) a new) some h))) ∙ same
 
 -- ---- the edits of one row more
 

@@ -10,3 +10,4 @@ pub mod Handled
 pub mod Outcomes
 pub mod Tables
 pub mod Commits
+pub mod NotWhole

@@ -1,23 +1,21 @@
 -- How far tokens reach, and the events of the cells between.
-use Rattle.std.proofs.Common.{◌≡◌, ℕ, zero, suc, min, ◌+◌, ◌-◌, ◌<◌, ◌≤◌, ◌==◌, ◌&&◌, ◌||◌, Bool, true, false, not, List, [], ◌∷◌, length, get_or, take, drop, filter, length-drop, if◌then◌else◌, refl, sym, ap, ◌∙◌, subst, arith, nat_lt}
+use Rattle.std.proofs.Common.{◌≡◌, ℕ, zero, suc, min, ◌+◌, ◌-◌, ◌<◌, ◌≤◌, ◌==◌, ◌&&◌, ◌||◌, Bool, true, false, not, List, [], ◌∷◌, length, get_or, take, drop, filter, Option, length-drop, if◌then◌else◌, refl, sym, ap, ◌∙◌, subst, arith, nat_lt}
 use borrow.Author.Tests.{ltb-true, eqb-true, lt-ltb}
 use Rattle.std.specs.List.{list_all}
 use Rattle.ax_values.specs.Words.{rises}
 use Rattle.ax_values.specs.declared.cell.Cell.{Cell}
 use Rattle.ax_values.specs.declared.record.Record.{Record}
 use Rattle.ax_log.specs.Log.{Stored, events_from, events}
-use Rattle.ax_segments.specs.Segments.{Segment, hash_of, matches}
+use Rattle.ax_segments.specs.Segments.{Segment, matches}
+use Rattle.ax_segments.specs.Sequences.{hash_in}
+use Rattle.ax_values.specs.Grammar.{Name}
 use Rattle.ax_tokens.specs.Plain.{Plain, contains, has, is_canonical_plain}
 use Rattle.ax_tokens.specs.Tokens.{Token, covers}
 use Rattle.ax_tokens.proofs.Sets.{above-first, gaps-below}
 use Rattle.ax_tokens.proofs.Gaps.{canonical-rises, canonical-below}
 use Rattle.ax_step_work.specs.Working.{is_new, new_below, is_fetched}
 use Rattle.ax_step_work.specs.Reach.{IsCoveredBelow, IsOpenFrom}
-use Rattle.ax_laws.proofs.Tests.{and-left}
-
-nothing-then : (m : Bool) → (m && false) ≡ false
-nothing-then true = refl
-nothing-then false = refl
+use Rattle.ax_laws.proofs.Tests.{and-left, and-false}
 
 -- ---- a plain part
 
@@ -93,27 +91,27 @@ nothing-after true true = refl
 nothing-after true false = refl
 nothing-after false n = refl
 
-new-covered : (s : Segment) (t : Token) (n : ℕ) → IsCoveredBelow t n → (e : Stored) → e.index < n → is_new s t e ≡ false
-new-covered s t n h e lt = ap (λ c. matches s (hash_of e.record_of.aggregate) && not c) (h s.mask (hash_of e.record_of.aggregate) e.index lt) ∙ nothing-then (matches s (hash_of e.record_of.aggregate))
+new-covered : (whole : Option Name) (s : Segment) (t : Token) (n : ℕ) → IsCoveredBelow t n → (e : Stored) → e.index < n → is_new whole s t e ≡ false
+new-covered whole s t n h e lt = ap (λ c. matches s (hash_in whole e.record_of.aggregate) && not c) (h s.mask (hash_in whole e.record_of.aggregate) e.index lt) ∙ and-false (matches s (hash_in whole e.record_of.aggregate))
 
-fetched-covered : (s : Segment) (old new : Token) (n : ℕ) → IsCoveredBelow old n → (e : Stored) → e.index < n → is_fetched s old new e ≡ false
-fetched-covered s old new n h e lt =
-    ap (λ c. matches s (hash_of e.record_of.aggregate) && (covers new s.mask (hash_of e.record_of.aggregate) e.index && not c)) (h s.mask (hash_of e.record_of.aggregate) e.index lt)
-    ∙ nothing-after (matches s (hash_of e.record_of.aggregate)) (covers new s.mask (hash_of e.record_of.aggregate) e.index)
+fetched-covered : (whole : Option Name) (s : Segment) (old new : Token) (n : ℕ) → IsCoveredBelow old n → (e : Stored) → e.index < n → is_fetched whole s old new e ≡ false
+fetched-covered whole s old new n h e lt =
+    ap (λ c. matches s (hash_in whole e.record_of.aggregate) && (covers new s.mask (hash_in whole e.record_of.aggregate) e.index && not c)) (h s.mask (hash_in whole e.record_of.aggregate) e.index lt)
+    ∙ nothing-after (matches s (hash_in whole e.record_of.aggregate)) (covers new s.mask (hash_in whole e.record_of.aggregate) e.index)
 
-fetched-open : (s : Segment) (old new : Token) (n : ℕ) → IsOpenFrom new n → (e : Stored) → n ≤ e.index → is_fetched s old new e ≡ false
-fetched-open s old new n h e le =
-    ap (λ c. matches s (hash_of e.record_of.aggregate) && (c && not (covers old s.mask (hash_of e.record_of.aggregate) e.index))) (h s.mask (hash_of e.record_of.aggregate) e.index le)
-    ∙ nothing-then (matches s (hash_of e.record_of.aggregate))
+fetched-open : (whole : Option Name) (s : Segment) (old new : Token) (n : ℕ) → IsOpenFrom new n → (e : Stored) → n ≤ e.index → is_fetched whole s old new e ≡ false
+fetched-open whole s old new n h e le =
+    ap (λ c. matches s (hash_in whole e.record_of.aggregate) && (c && not (covers old s.mask (hash_in whole e.record_of.aggregate) e.index))) (h s.mask (hash_in whole e.record_of.aggregate) e.index le)
+    ∙ and-false (matches s (hash_in whole e.record_of.aggregate))
 
 -- what is fetched is fetched from the cells between
-pub fetched-between : (s : Segment) (old new : Token) (least past low high : ℕ) (cells : List Cell) → IsCoveredBelow old least → IsOpenFrom new past → high ≡ min past (length cells) → low ≡ min least high
-    → filter (is_fetched s old new) (events_from low (take (high - low) (drop low cells))) ≡ filter (is_fetched s old new) (events cells)
-fetched-between s old new least past low high cells f g = between (is_fetched s old new) least past low high cells (fetched-covered s old new least f) (fetched-open s old new past g)
+pub fetched-between : (whole : Option Name) (s : Segment) (old new : Token) (least past low high : ℕ) (cells : List Cell) → IsCoveredBelow old least → IsOpenFrom new past → high ≡ min past (length cells) → low ≡ min least high
+    → filter (is_fetched whole s old new) (events_from low (take (high - low) (drop low cells))) ≡ filter (is_fetched whole s old new) (events cells)
+fetched-between whole s old new least past low high cells f g = between (is_fetched whole s old new) least past low high cells (fetched-covered whole s old new least f) (fetched-open whole s old new past g)
 
 -- no new event stands before the first cell that can have one
-pub new-from : (s : Segment) (t : Token) (least low b : ℕ) (cells : List Cell) → IsCoveredBelow t least → low ≤ least → new_below s t (events_from low (drop low cells)) b ≡ new_below s t (events cells) b
-new-from s t least low b cells h le =
+pub new-from : (whole : Option Name) (s : Segment) (t : Token) (least low b : ℕ) (cells : List Cell) → IsCoveredBelow t least → low ≤ least → new_below whole s t (events_from low (drop low cells)) b ≡ new_below whole s t (events cells) b
+new-from whole s t least low b cells h le =
     let start : 0 + low ≡ low = omega arith in
-    ap (λ k. new_below s t (events_from k (drop low cells)) b) (sym start)
-    ∙ skip-front (λ e. is_new s t e && nat_lt e.index b) least low 0 cells (λ e lt. ap (λ c. c && nat_lt e.index b) (new-covered s t least h e lt)) (omega arith)
+    ap (λ k. new_below whole s t (events_from k (drop low cells)) b) (sym start)
+    ∙ skip-front (λ e. is_new whole s t e && nat_lt e.index b) least low 0 cells (λ e lt. ap (λ c. c && nat_lt e.index b) (new-covered whole s t least h e lt)) (omega arith)

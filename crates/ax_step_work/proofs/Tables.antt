@@ -1,5 +1,5 @@
 -- The table of a processor after a commit: each row is the fold of what is covered then, and a new row finds a place.
-use Rattle.std.proofs.Common.{◌≡◌, ℕ, suc, ◌*◌, ◌≤◌, Bool, true, false, not, ◌||◌, cond, List, [], ◌∷◌, length, map, filter, flat_map, take, Some, None, Result, Ok, Err, is_some, if◌then◌else◌, refl, sym, ap, ◌∙◌, subst, true≢false, arith}
+use Rattle.std.proofs.Common.{◌≡◌, ℕ, suc, ◌*◌, ◌≤◌, Bool, true, false, not, ◌||◌, cond, List, [], ◌∷◌, length, map, filter, flat_map, take, Option, Some, None, Result, Ok, Err, is_some, if◌then◌else◌, refl, sym, ap, ◌∙◌, subst, true≢false, arith}
 use Rattle.std.specs.List.{AllByRecursion, IsDistinct, list_any}
 use Rattle.std.proofs.lemmas.List.{length-map, length-append, take_all}
 use Rattle.std.proofs.lemmas.Map.Keys.{IsDistinct-head, IsDistinct-tail}
@@ -16,6 +16,7 @@ use Rattle.ax_projections.proofs.NameLaws.{name-is, name-sym, name-refl, length-
 use Rattle.ax_projections.proofs.RowLaws.{length_applied}
 use Rattle.ax_state.specs.Portions.{Portion, covered_events, items_in, row_by}
 use Rattle.ax_state.specs.State.{Batch}
+use Rattle.ax_state.proofs.Grow.{events-few}
 use Rattle.ax_step_work.specs.Working.{is_fetched, fetched_events, batch_items}
 use Rattle.ax_step_work.specs.Handling.{first_of}
 use Rattle.ax_step_work.proofs.Folding.{filter-swap, row-now}
@@ -71,8 +72,8 @@ no-stream a (e ∷ es) h = at (same_name a e.record_of.aggregate) refl h (no-str
     at true k h again = absurd (true≢false h)
     at false k h again = ap (λ c. cond c (e ∷ stream_in a es) (stream_in a es)) (name-sym e.record_of.aggregate a ∙ k) ∙ again h
 
-pub no-items : (chain : List Upcaster) (ps : List Portion) (a : Name) (es : List Stored) → list_any (same_name a) (names_in es) ≡ false → items_in chain (covered_events ps es) a ≡ []
-no-items chain ps a es h = ap (flat_map (placed_items chain)) (filter-swap (is_of a) _ es ∙ ap (filter _) (no-stream a es h))
+pub no-items : (whole : Option Name) (chain : List Upcaster) (ps : List Portion) (a : Name) (es : List Stored) → list_any (same_name a) (names_in es) ≡ false → items_in chain (covered_events whole ps es) a ≡ []
+no-items whole chain ps a es h = ap (flat_map (placed_items chain)) (filter-swap (is_of a) _ es ∙ ap (filter _) (no-stream a es h))
 
 has-row : (es : List Entry) (n : Name) (e : Entry) → is_some (look_up n es) ≡ true → is_some (look_up n (e ∷ es)) ≡ true
 has-row es n e h = ap is_some (look-first n e es (same_name n e.name) refl) ∙ at (same_name n e.name)
@@ -92,12 +93,6 @@ all-rows (e ∷ es) = (ap is_some (look-first e.name e es true (name-refl e.name
 all-named : (P Q : Name → Type 0) → ((a : Name) → P a → Q a) → (ns : List Name) → AllByRecursion P ns → AllByRecursion Q ns
 all-named P Q f [] h = tt
 all-named P Q f (n ∷ ns) h = (f n h.0, all-named P Q f ns h.1)
-
-pub events-few : (k : ℕ) (cells : List Cell) → length (events_from k cells) ≤ length cells
-events-few k [] = omega arith
-events-few k (Cell.Event r ∷ cells) = let h : length (events_from (suc k) cells) ≤ length cells = events-few (suc k) cells in omega arith
-events-few k (Cell.Reserved a s w t ∷ cells) = let h : length (events_from (suc k) cells) ≤ length cells = events-few (suc k) cells in omega arith
-events-few k (Cell.Void ∷ cells) = let h : length (events_from (suc k) cells) ≤ length cells = events-few (suc k) cells in omega arith
 
 -- a table whose rows have events is no longer than the events
 pub rows-few : (es : List Stored) (table : List Entry) → IsDistinct same_name (map (λ e. e.name) table) → ((a : Name) → list_any (same_name a) (names_in es) ≡ false → look_up a table ≡ None) → length table ≤ length es
@@ -130,19 +125,19 @@ items-few chain (e ∷ es) few =
     let h : length (flat_map (placed_items chain) es) ≤ 8 * length es = items-few chain es few in
     omega (arith, h, upcast-few chain e few, length-append (placed_items chain e) (flat_map (placed_items chain) es))
 
-pub covered-few : (chain : List Upcaster) (ps : List Portion) (a : Name) (cells : List Cell) → KeepsLimit chain → length cells ≤ 200000 → length (items_in chain (covered_events ps (events cells)) a) ≤ 1600000
-covered-few chain ps a cells few size =
-    let k : length (items_in chain (covered_events ps (events cells)) a) ≤ 8 * length (stream_in a (covered_events ps (events cells))) = items-few chain (stream_in a (covered_events ps (events cells))) few in
-    let l : length (stream_in a (covered_events ps (events cells))) ≤ length (covered_events ps (events cells)) = length-filter (is_of a) (covered_events ps (events cells)) in
-    let m : length (covered_events ps (events cells)) ≤ length (events cells) = length-filter _ (events cells) in
+pub covered-few : (whole : Option Name) (chain : List Upcaster) (ps : List Portion) (a : Name) (cells : List Cell) → KeepsLimit chain → length cells ≤ 200000 → length (items_in chain (covered_events whole ps (events cells)) a) ≤ 1600000
+covered-few whole chain ps a cells few size =
+    let k : length (items_in chain (covered_events whole ps (events cells)) a) ≤ 8 * length (stream_in a (covered_events whole ps (events cells))) = items-few chain (stream_in a (covered_events whole ps (events cells))) few in
+    let l : length (stream_in a (covered_events whole ps (events cells))) ≤ length (covered_events whole ps (events cells)) = length-filter (is_of a) (covered_events whole ps (events cells)) in
+    let m : length (covered_events whole ps (events cells)) ≤ length (events cells) = length-filter _ (events cells) in
     let n : length (events cells) ≤ length cells = events-few 0 cells in
     omega arith
 
 -- the items of a batch
-pub batch-few : (chain : List Upcaster) (b : Batch) (cells : List Cell) → KeepsLimit chain → length cells ≤ 200000 → length (batch_items chain b (events cells)) ≤ 1600000
-batch-few chain b cells few size =
-    let k : length (batch_items chain b (events cells)) ≤ 8 * length (fetched_events b (events cells)) = items-few chain (fetched_events b (events cells)) few in
-    let m : length (fetched_events b (events cells)) ≤ length (events cells) = length-filter (is_fetched b.segment b.old b.new) (events cells) in
+pub batch-few : (whole : Option Name) (chain : List Upcaster) (b : Batch) (cells : List Cell) → KeepsLimit chain → length cells ≤ 200000 → length (batch_items whole chain b (events cells)) ≤ 1600000
+batch-few whole chain b cells few size =
+    let k : length (batch_items whole chain b (events cells)) ≤ 8 * length (fetched_events whole b (events cells)) = items-few chain (fetched_events whole b (events cells)) few in
+    let m : length (fetched_events whole b (events cells)) ≤ length (events cells) = length-filter (is_fetched whole b.segment b.old b.new) (events cells) in
     let n : length (events cells) ≤ length cells = events-few 0 cells in
     omega arith
 

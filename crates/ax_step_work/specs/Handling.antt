@@ -1,5 +1,5 @@
 -- What the items of a batch make of the rows, one after another.
-use Rattle.std.specs.Prelude.{◌≡◌, ℕ, ◌+◌, ◌≤◌, ◌==◌, List, [], ◌∷◌, map, length, Option, Some, None, Result, Ok, Err, if◌then◌else◌}
+use Rattle.std.specs.Prelude.{◌≡◌, ℕ, ◌+◌, ◌≤◌, ◌==◌, List, [], ◌∷◌, ◌++◌, map, length, Option, Some, None, Result, Ok, Err, if◌then◌else◌}
 use Rattle.ax_values.specs.Grammar.{Name, ItemName}
 use Rattle.ax_values.specs.declared.cell.Cell.{Cell}
 use Rattle.ax_values.specs.declared.item.Item.{Item}
@@ -11,10 +11,11 @@ use Rattle.ax_upcast.specs.declared.upcaster.Upcaster.{Upcaster}
 use Rattle.ax_projections.specs.Table.{Entry, look_up, put_entry}
 use Rattle.ax_projections.specs.Rebuild.{or_start}
 use Rattle.ax_projections.specs.declared.table.Positioned.{Positioned}
-use Rattle.ax_claims.specs.Rows.{TokenRow, put_row}
+use Rattle.ax_claims.specs.Rows.{TokenRow, row_at, put_row}
 use Rattle.ax_claims.specs.declared.refused.Refused.{Refused}
-use Rattle.ax_state.specs.State.{Batch}
+use Rattle.ax_state.specs.State.{Batch, Desk}
 use Rattle.ax_world.specs.declared.edit.Edit.{Edit}
+use Rattle.ax_world.specs.declared.edit.Move.{Move}
 use Rattle.ax_journal.specs.declared.reply.Reply.{Reply}
 use Rattle.ax_step_work.specs.Working.{Failure, is_fetched}
 
@@ -62,11 +63,11 @@ pub record IsFitting (rules : Rules) (kept : List Entry) (s : Progress) : Type 0
   pub fields : (a : Name) → length (present rules kept s.rows a).row ≡ length rules.fields
   pub rows : length s.rows ≤ s.items
 
--- the items of a cell that are of the batch
-abbrev pub cell_items : List Upcaster → Batch → ℕ → Cell → List Item
-cell_items chain b i (Cell.Event r) = if is_fetched b.segment b.old b.new (record { index = i; record_of = r }) then upcast chain r else []
-cell_items chain b i (Cell.Reserved a s w t) = []
-cell_items chain b i Cell.Void = []
+-- the items of a cell that are of the batch; where a processor is whole, `whole` is its name
+abbrev pub cell_items : Option Name → List Upcaster → Batch → ℕ → Cell → List Item
+cell_items whole chain b i (Cell.Event r) = if is_fetched whole b.segment b.old b.new (record { index = i; record_of = r }) then upcast chain r else []
+cell_items whole chain b i (Cell.Reserved a s w t) = []
+cell_items whole chain b i Cell.Void = []
 
 -- ---- edits
 
@@ -77,6 +78,16 @@ row_edits p es = map (λ e. Edit.PutRow p e.name e.value) es
 abbrev pub stored_or : ℕ → Batch → List TokenRow → Option TokenRow → Result (List TokenRow) Reply
 stored_or now b rows None = Err (Reply.Stale b.fence None)
 stored_or now b rows (Some r) = if r.fence == b.fence then Ok (put_row (record r { token = b.new; since = now }) rows) else Err (Reply.Stale b.fence (Some r.fence))
+
+abbrev pub stored : ℕ → Batch → List TokenRow → Result (List TokenRow) Reply
+stored now b rows = stored_or now b rows (row_at b.segment rows)
+
+-- puts the changed rows and the token rows, and takes the batch off the desk
+abbrev pub install_edits : ℕ → List Entry → List TokenRow → ℕ → Desk → List Edit
+install_edits p es rows actor desk = row_edits p es ++ Edit.SetRows p rows ∷ Edit.SetDesk actor (record desk { batch = None }) ∷ []
+
+abbrev pub install_move : ℕ → Progress → List TokenRow → ℕ → Desk → Move
+install_move p s rows actor desk = record { edits = install_edits p s.rows rows actor desk; reply = Reply.Committed s.items 0 0; report = [] }
 
 abbrev pub IsStale : Refused → Type 0
 IsStale Refused.NoSegment = ⊥

@@ -1,7 +1,12 @@
 -- How far a token reaches: below which index it covers all, and from which on it covers none.
-use Rattle.std.specs.Prelude.{◌≡◌, ℕ, ◌<◌, ◌≤◌, Bool, true, false, ◌||◌}
+use Rattle.std.specs.Prelude.{◌≡◌, ℕ, ◌<◌, ◌≤◌, Bool, true, false, ◌||◌, List, Option, filter}
+use Rattle.ax_values.specs.Grammar.{Name}
+use Rattle.ax_values.specs.declared.cell.Cell.{Cell}
+use Rattle.ax_log.specs.Log.{events_from, events}
+use Rattle.ax_segments.specs.Segments.{Segment}
 use Rattle.ax_tokens.specs.Plain.{has}
 use Rattle.ax_tokens.specs.Tokens.{Token, plain, merged, replay, covers}
+use Rattle.ax_step_work.specs.Working.{is_fetched}
 
 -- each index below n is covered, for every hash
 abbrev pub IsCoveredBelow : Token → ℕ → Type 0
@@ -16,3 +21,7 @@ abbrev pub some_has : Token → ℕ → Bool
 some_has (plain p) i = has p i
 some_has (merged l u) i = some_has l i || some_has u i
 some_has (replay r c) i = has c i
+
+-- whether processors are whole or not, all events that are fetched from the old token to the new one stand in the part, whose first cell has the index `first`
+abbrev pub HasFetched : Token → Token → List Cell → ℕ → List Cell → Type 0
+HasFetched old new cells first part = (whole : Option Name) (s : Segment) → filter (is_fetched whole s old new) (events_from first part) ≡ filter (is_fetched whole s old new) (events cells)

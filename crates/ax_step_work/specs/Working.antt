@@ -2,19 +2,20 @@
 use Rattle.std.specs.Prelude.{ℕ, zero, suc, ◌==◌, Bool, not, ◌&&◌, List, [], ◌∷◌, ◌++◌, length, filter, flat_map, Option, Some, None, Result, Ok, Err, nat_lt, nat_le, IsTrue, if◌then◌else◌}
 use Rattle.ax_values.specs.Grammar.{Name, ItemName}
 use Rattle.ax_values.specs.Words.{same_name}
-use Rattle.ax_log.specs.Log.{Stored, events}
+use Rattle.ax_log.specs.Log.{Stored, events, first_reserved}
 use Rattle.ax_rules.specs.Expr.{Row}
 use Rattle.ax_rules.specs.Rules.{Rules, fold_from, start_row, row_or}
 use Rattle.ax_rules.specs.Why.{why_text}
-use Rattle.ax_segments.specs.Segments.{Segment, hash_of, matches}
+use Rattle.ax_segments.specs.Segments.{Segment, matches}
+use Rattle.ax_segments.specs.Sequences.{hash_in}
 use Rattle.ax_tokens.specs.Tokens.{Token, covers, advanced, collapsed, gaps_fit}
 use Rattle.ax_projections.specs.Items.{Placed, placed_items, plain_items}
 use Rattle.ax_claims.specs.Rows.{TokenRow, row_at, put_row}
-use Rattle.ax_state.specs.Setting.{Setting, processor_number, projection_at, is_projection}
+use Rattle.ax_state.specs.Setting.{Setting, processor_number, projection_at, is_projection, whole_at}
 use Rattle.ax_state.specs.State.{State, Batch, desk_at, processor_state_at, with_desk, with_rows}
 use Rattle.ax_state.specs.Positions.{row_of}
-use Rattle.ax_state.specs.Holding.{on_held_row}
 use Rattle.ax_state.specs.Answer.{Answer, answer}
+use Rattle.ax_world.specs.Holding.{on_held_row}
 use Rattle.ax_values.specs.declared.cell.Cell.{Cell}
 use Rattle.ax_rules.specs.declared.cause.Cause.{Cause}
 use Rattle.ax_rules.specs.declared.why.Why.{Why}
@@ -27,45 +28,52 @@ with_batch actor b m = with_desk actor (record (desk_at m actor) { batch = b }) 
 
 -- ---- the fetch bound
 
--- whether the event is of the segment and not covered for its aggregate's hash
-abbrev pub is_new : Segment → Token → Stored → Bool
-is_new s t e = matches s (hash_of e.record_of.aggregate) && not (covers t s.mask (hash_of e.record_of.aggregate) e.index)
+-- Where a processor is whole, `whole` is its name.
+
+-- whether the event is of the segment and not covered for its hash
+abbrev pub is_new : Option Name → Segment → Token → Stored → Bool
+is_new whole s t e = matches s (hash_in whole e.record_of.aggregate) && not (covers t s.mask (hash_in whole e.record_of.aggregate) e.index)
 
 -- those of the events below b
-abbrev pub new_below : Segment → Token → List Stored → ℕ → List Stored
-new_below s t es b = filter (λ e. is_new s t e && nat_lt e.index b) es
+abbrev pub new_below : Option Name → Segment → Token → List Stored → ℕ → List Stored
+new_below whole s t es b = filter (λ e. is_new whole s t e && nat_lt e.index b) es
 
 -- at most so many of them, and few gaps afterwards
-abbrev pub is_fetchable : Segment → Token → List Cell → ℕ → ℕ → Bool
-is_fetchable s t cells most b = nat_le (length (new_below s t (events cells) b)) most && gaps_fit (advanced cells b t)
+abbrev pub is_fetchable : Option Name → Segment → Token → List Cell → ℕ → ℕ → Bool
+is_fetchable whole s t cells most b = nat_le (length (new_below whole s t (events cells) b)) most && gaps_fit (advanced cells b t)
+
+-- no fetch goes further: all events of a whole processor are taken in the order of the log
+abbrev pub fetch_limit : Option Name → List Cell → ℕ
+fetch_limit None cells = length cells
+fetch_limit (Some name) cells = first_reserved cells
 
 -- the largest number at most n that passes the test, or 0
 abbrev pub largest : (ℕ → Bool) → ℕ → ℕ
 largest test zero = 0
 largest test (suc n) = if test (suc n) then suc n else largest test n
 
-abbrev pub fetch_bound : Segment → Token → List Cell → ℕ → ℕ
-fetch_bound s t cells most = largest (is_fetchable s t cells most) (length cells)
+abbrev pub fetch_bound : Option Name → Segment → Token → List Cell → ℕ → ℕ
+fetch_bound whole s t cells most = largest (is_fetchable whole s t cells most) (fetch_limit whole cells)
 
-abbrev pub fetched_token : Segment → Token → List Cell → ℕ → Token
-fetched_token s t cells most = collapsed (advanced cells (fetch_bound s t cells most) t)
+abbrev pub fetched_token : Option Name → Segment → Token → List Cell → ℕ → Token
+fetched_token whole s t cells most = collapsed (advanced cells (fetch_bound whole s t cells most) t)
 
 -- ---- fetch
 
 -- the event is of the segment, the new token covers it, and the old one does not
-abbrev pub is_fetched : Segment → Token → Token → Stored → Bool
-is_fetched s old new e =
-    matches s (hash_of e.record_of.aggregate)
-    && (covers new s.mask (hash_of e.record_of.aggregate) e.index && not (covers old s.mask (hash_of e.record_of.aggregate) e.index))
+abbrev pub is_fetched : Option Name → Segment → Token → Token → Stored → Bool
+is_fetched whole s old new e =
+    matches s (hash_in whole e.record_of.aggregate)
+    && (covers new s.mask (hash_in whole e.record_of.aggregate) e.index && not (covers old s.mask (hash_in whole e.record_of.aggregate) e.index))
 
-abbrev pub fetched_events : Batch → List Stored → List Stored
-fetched_events b es = filter (is_fetched b.segment b.old b.new) es
+abbrev pub fetched_events : Option Name → Batch → List Stored → List Stored
+fetched_events whole b es = filter (is_fetched whole b.segment b.old b.new) es
 
 abbrev pub batch_of : State → ℕ → Segment → ℕ → TokenRow → Batch
-batch_of m p s most r = record { processor = p; segment = s; fence = r.fence; old = r.token; new = fetched_token s r.token m.cells most }
+batch_of m p s most r = record { processor = p; segment = s; fence = r.fence; old = r.token; new = fetched_token (whole_at m.setting p) s r.token m.cells most }
 
 abbrev pub fetched : State → ℕ → Batch → Answer
-fetched m actor b = answer (with_batch actor (Some b) m) (Reply.Fetched (length (fetched_events b (events m.cells))))
+fetched m actor b = answer (with_batch actor (Some b) m) (Reply.Fetched (length (fetched_events (whole_at m.setting b.processor) b (events m.cells))))
 
 abbrev pub fetch_at : State → ℕ → ℕ → Segment → ℕ → Answer
 fetch_at m actor p s most = on_held_row m actor p s (λ r. fetched m actor (batch_of m p s most r))
@@ -76,8 +84,8 @@ fetch m actor name s most = fetch_at m actor (processor_number m.setting.process
 -- ---- what a batch makes of rows
 
 -- the items of a batch, by index, then part
-abbrev pub batch_items : List Upcaster → Batch → List Stored → List Placed
-batch_items chain b es = flat_map (placed_items chain) (fetched_events b es)
+abbrev pub batch_items : Option Name → List Upcaster → Batch → List Stored → List Placed
+batch_items whole chain b es = flat_map (placed_items chain) (fetched_events whole b es)
 
 abbrev pub is_item_of : Name → Placed → Bool
 is_item_of a x = same_name x.item.name.aggregate a
@@ -114,14 +122,18 @@ first_failure rules row before (x ∷ xs) =
 abbrev pub installed : State → ℕ → Batch → TokenRow → State
 installed m actor b r = with_batch actor None (with_rows b.processor (put_row (record r { token = b.new; since = m.clock }) (processor_state_at m b.processor).rows) m)
 
+-- the items of a batch of the state
+abbrev pub items_of_batch : State → Batch → List Placed
+items_of_batch m b = batch_items (whole_at m.setting b.processor) m.setting.sheet.chain b (events m.cells)
+
 abbrev pub committed : State → ℕ → Batch → TokenRow → Option Failure → Answer
 committed m actor b r (Some f) = answer m (Reply.NotApplied f.item (why_text (Why.Failed f.cause)))
-committed m actor b r None = answer (installed m actor b r) (Reply.Committed (length (batch_items m.setting.sheet.chain b (events m.cells))) 0 0)
+committed m actor b r None = answer (installed m actor b r) (Reply.Committed (length (items_of_batch m b)) 0 0)
 
 abbrev pub commit_over : State → ℕ → Batch → Option TokenRow → Answer
 commit_over m actor b None = answer (with_batch actor None m) (Reply.Stale b.fence None)
 commit_over m actor b (Some r) =
-    if r.fence == b.fence then committed m actor b r (first_failure (projection_at m.setting b.processor) (present_row m b.processor) [] (batch_items m.setting.sheet.chain b (events m.cells)))
+    if r.fence == b.fence then committed m actor b r (first_failure (projection_at m.setting b.processor) (present_row m b.processor) [] (items_of_batch m b))
     else answer (with_batch actor None m) (Reply.Stale b.fence (Some r.fence))
 
 abbrev pub commit_batch : State → ℕ → Option Batch → Answer
@@ -131,18 +143,21 @@ commit_batch m actor (Some b) = commit_over m actor b (row_at b.segment (process
 abbrev pub commit : State → ℕ → Answer
 commit m actor = commit_batch m actor (desk_at m actor).batch
 
-abbrev pub step : State → ℕ → Order → Answer
-step m actor (Order.Fetch name s most) = fetch m actor name s most
-step m actor Order.Commit = commit m actor
-step m actor o = answer m Reply.Done
+-- ---- both
 
 -- the orders of this crate
 abbrev pub IsWork : Order → Type 0
 IsWork (Order.Fetch name s most) = Unit {0}
 IsWork Order.Commit = Unit {0}
-IsWork o = ⊥
+IsWork order = ⊥
 
 -- the processor that a fetch names is one of a projection
 abbrev pub IsDeclared : Setting → Order → Type 0
 IsDeclared setting (Order.Fetch name s most) = IsTrue (is_projection setting (processor_number setting.processors name))
-IsDeclared setting o = Unit {0}
+IsDeclared setting order = Unit {0}
+
+-- of an order of this crate
+abbrev pub step : State → ℕ → (order : Order) → IsWork order → Answer
+step m actor (Order.Fetch name s most) kind = fetch m actor name s most
+step m actor Order.Commit kind = commit m actor
+step m actor order kind = absurd kind

@@ -1,38 +1,41 @@
 ghost use Rattle.std.specs.Prelude.{◌≡◌, ℕ, ◌<◌, ◌≤◌, length, filter, nat_le, IfOk};
-ghost use Rattle.ax_log.specs.Log.{events};
+ghost use Rattle.std.specs.Option.{option_copied};
+ghost use Rattle.ax_log.specs.Log.{events, first_reserved};
 ghost use Rattle.ax_log.specs.Order.{max_cells};
 ghost use Rattle.ax_tokens.specs.Nodes.{token_of};
 ghost use Rattle.ax_tokens.specs.Tokens.{gaps_fit, max_gaps};
-ghost use Rattle.ax_step_work.specs.Working.{is_new, new_below, is_fetched, fetched_token};
+ghost use Rattle.ax_step_work.specs.Working.{is_new, new_below, is_fetched, fetch_limit, fetched_token};
 
 use crate::reach::{fetchable, low_of};
-use ax_segments::{Segment, hash_of};
+use ax_segments::{Segment, hash_in};
 use ax_tokens::{Plain, Token};
-use ax_values::{Cell, NoMemory, Record};
+use ax_values::{Cell, Name, NoMemory, Record};
 use std::alloc::Global;
 
 /// How many gaps a plain part of a token may have.
 const MAX_GAPS: usize = 1000;
 
-/// Whether the event, at its index, is of the segment and the token does not cover it.
-fn is_new(segment: Segment, token: &Token, index: u32, event: &Record) -> bool
-    ensures { result ≡ is_new segment (token_of token.now) (record { index = index; record_of = event.now }) }
+/// Whether the event, at its index, is of the segment and the token does not cover it. Where the processor is whole,
+/// `whole` is its name, here and below.
+fn is_new(whole: Option<&Name>, segment: Segment, token: &Token, index: u32, event: &Record) -> bool
+    ensures { result ≡ is_new (option_copied whole.entry) segment (token_of token.now) (record { index = index; record_of = event.now }) }
 {
-    let hash = hash_of(event.aggregate.parts());
+    let hash = hash_in(whole, &event.aggregate);
     segment.matches(hash) && !token.covers(segment, hash, index)
 }
 
 /// Whether the event, at its index, is of the segment, and the new token covers it and the old one does not.
 pub(crate) fn is_fetched(
+    whole: Option<&Name>,
     segment: Segment,
     old: &Token,
     new: &Token,
     index: u32,
     event: &Record,
 ) -> bool
-    ensures { result ≡ is_fetched segment (token_of old.now) (token_of new.now) (record { index = index; record_of = event.now }) }
+    ensures { result ≡ is_fetched (option_copied whole.entry) segment (token_of old.now) (token_of new.now) (record { index = index; record_of = event.now }) }
 {
-    let hash = hash_of(event.aggregate.parts());
+    let hash = hash_in(whole, &event.aggregate);
     segment.matches(hash) && (new.covers(segment, hash, index) && !old.covers(segment, hash, index))
 }
 
@@ -53,20 +56,52 @@ fn gaps_fit(token: &Token) -> bool
     }
 }
 
-/// The largest bound, at most the log's length, below which at most so many events are new.
-fn bound_of(segment: Segment, token: &Token, cells: &[Cell], most: u32) -> u32
+/// The index of the first reserved cell, or the log's length.
+fn first_reserved(cells: &[Cell]) -> u32
     requires { length cells.now ≤ max_cells }
-    ensures within { result ≤ length cells.now }
-    ensures few { length (new_below segment (token_of token.now) (events cells.now) result) ≤ most }
-    ensures above { (b : ℕ) → result < b → b ≤ length cells.now → most < length (new_below segment (token_of token.now) (events cells.now) b) }
+    ensures { result ≡ first_reserved cells.now }
 {
-    let first = (low_of(token) as usize).min(cells.len());
-    let rest = &cells[first..];
+    for (index, cell) in cells.iter().enumerate() {
+        if let Cell::Reserved { .. } = cell {
+            return index as u32;
+        }
+    }
+    cells.len() as u32
+}
+
+/// How far a fetch may go: to the log's end, or to the first reserved cell where the processor is whole.
+fn fetch_limit(whole: Option<&Name>, cells: &[Cell]) -> u32
+    requires { length cells.now ≤ max_cells }
+    ensures { result ≡ fetch_limit (option_copied whole.entry) cells.now }
+{
+    match whole {
+        None => cells.len() as u32,
+        Some(_) => first_reserved(cells),
+    }
+}
+
+/// The largest bound, at most the limit, below which at most so many events are new.
+fn bound_of(
+    whole: Option<&Name>,
+    segment: Segment,
+    token: &Token,
+    cells: &[Cell],
+    limit: u32,
+    most: u32,
+) -> u32
+    requires limit { limit ≤ length cells.now }
+    requires size { length cells.now ≤ max_cells }
+    ensures within { result ≤ limit }
+    ensures few { length (new_below (option_copied whole.entry) segment (token_of token.now) (events cells.now) result) ≤ most }
+    ensures above { (b : ℕ) → result < b → b ≤ limit → most < length (new_below (option_copied whole.entry) segment (token_of token.now) (events cells.now) b) }
+{
+    let first = low_of(token).min(limit) as usize;
+    let below = &cells[first..limit as usize];
     let mut count = 0;
-    for (offset, cell) in rest.iter().enumerate() {
+    for (offset, cell) in below.iter().enumerate() {
         let index = (first + offset) as u32;
         if let Cell::Event(event) = cell {
-            if is_new(segment, token, index, event) {
+            if is_new(whole, segment, token, index, event) {
                 if count == most {
                     return index;
                 }
@@ -74,21 +109,23 @@ fn bound_of(segment: Segment, token: &Token, cells: &[Cell], most: u32) -> u32
             }
         }
     }
-    cells.len() as u32
+    limit
 }
 
 /// The token advanced as far as a fetch of at most so many records goes.
 pub(crate) fn fetched_token(
     alloc: Global,
+    whole: Option<&Name>,
     segment: Segment,
     token: &Token,
     cells: &[Cell],
     most: u32,
 ) -> Result<Token, NoMemory>
     requires { length cells.now ≤ max_cells }
-    ensures { IfOk result (λ new. token_of new ≡ fetched_token segment (token_of token.now) cells.now most) }
+    ensures { IfOk result (λ new. token_of new ≡ fetched_token (option_copied whole.entry) segment (token_of token.now) cells.now most) }
 {
-    let mut bound = bound_of(segment, token, cells, most);
+    let limit = fetch_limit(whole, cells);
+    let mut bound = bound_of(whole, segment, token, cells, limit, most);
     let mut new = token.advance(alloc, cells, bound)?;
     while bound > 0 && !gaps_fit(&new) {
         bound -= 1;
@@ -98,15 +135,21 @@ pub(crate) fn fetched_token(
 }
 
 /// How many of the events are of the segment, covered by the new token and not by the old one.
-pub(crate) fn count_fetched(segment: Segment, old: &Token, new: &Token, cells: &[Cell]) -> u32
+pub(crate) fn count_fetched(
+    whole: Option<&Name>,
+    segment: Segment,
+    old: &Token,
+    new: &Token,
+    cells: &[Cell],
+) -> u32
     requires { length cells.now ≤ max_cells }
-    ensures { result ≡ length (filter (is_fetched segment (token_of old.now) (token_of new.now)) (events cells.now)) }
+    ensures { result ≡ length (filter (is_fetched (option_copied whole.entry) segment (token_of old.now) (token_of new.now)) (events cells.now)) }
 {
     let (first, part) = fetchable(old, new, cells);
     let mut count = 0;
     for (offset, cell) in part.iter().enumerate() {
         if let Cell::Event(event) = cell {
-            if is_fetched(segment, old, new, first + offset as u32, event) {
+            if is_fetched(whole, segment, old, new, first + offset as u32, event) {
                 count += 1;
             }
         }

@@ -4,14 +4,13 @@ ghost use Rattle.ax_values.specs.Words.{same_name};
 ghost use Rattle.ax_rules.specs.Why.{why_text};
 ghost use Rattle.ax_rules.specs.declared.why.Why.{Why};
 ghost use Rattle.ax_projections.specs.Table.{Entry};
-ghost use Rattle.ax_claims.specs.Rows.{row_at};
 ghost use Rattle.ax_state.specs.State.{desk_at};
-ghost use Rattle.ax_world.specs.WorldTables.{state_of, processor_tables_at};
+ghost use Rattle.ax_world.specs.WorldTables.{state_of, rows_at};
 ghost use Rattle.ax_world.specs.Moves.{IsMove};
 ghost use Rattle.ax_world.specs.declared.edit.Edit.{Edit};
 ghost use Rattle.ax_journal.specs.declared.reply.Reply.{Reply};
 ghost use Rattle.ax_step_work.specs.Working.{commit, commit_batch};
-ghost use Rattle.ax_step_work.specs.Handling.{row_edits, stored_or, IsStale, stale_reply};
+ghost use Rattle.ax_step_work.specs.Handling.{row_edits, stored, install_move, IsStale, stale_reply};
 
 use crate::handling::{Changes, Failed, handle_batch};
 use ax_claims::{Refused, Rows};
@@ -53,7 +52,7 @@ fn store_batch(
     now: u64,
     batch: &Batch,
 ) -> Result<Result<Rows, Reply>, NoMemory>
-    ensures { IfOk result (λ made. made ≡ stored_or now batch.now rows.now (row_at batch.now.segment rows.now)) }
+    ensures { IfOk result (λ made. made ≡ stored now batch.now rows.now) }
 {
     let mut rows = rows.copy(alloc)?;
     match rows.store(batch.segment, batch.fence, batch.new.copy(alloc)?, now) {
@@ -83,7 +82,7 @@ fn commit_rows(
 ) -> Result<Move, NoMemory>
     requires actor { actor < length world.now.tables.desks }
     requires batch { (desk_at (state_of world.now.tables) actor).batch ≡ Some batch.now }
-    requires rows { Ok rows ≡ stored_or world.now.tables.clock batch.now (processor_tables_at world.now.tables batch.now.processor).processor_state.rows (row_at batch.now.segment (processor_tables_at world.now.tables batch.now.processor).processor_state.rows) }
+    requires rows { Ok rows ≡ stored world.now.tables.clock batch.now (rows_at world.now.tables batch.now.processor) }
     ensures { IfOk result (IsMove world.now.tables (commit_batch (state_of world.now.tables) actor (Some batch.now))) }
 {
     world.facts();
@@ -93,7 +92,7 @@ fn commit_rows(
     let kept = world.table(batch.processor);
     let _ = kept.len();
     let cells = world.log().cells();
-    match handle_batch(alloc, chain, rules, kept, cells, batch)? {
+    match handle_batch(alloc, None, chain, rules, kept, cells, batch)? {
         Ok(changes) => install(alloc, world, actor, batch.processor, rows, changes),
         Err(failed) => not_applied(alloc, failed),
     }
@@ -138,7 +137,7 @@ fn install(
     changes: Changes,
 ) -> Result<Move, NoMemory>
     requires { actor < length world.now.tables.desks }
-    ensures value { IfOk result (λ made. made ≡ record { edits = row_edits processor changes.rows ++ Edit.SetRows processor rows ∷ Edit.SetDesk actor (record (desk_at (state_of world.now.tables) actor) { batch = None }) ∷ []; reply = Reply.Committed changes.items 0 0; report = [] }) }
+    ensures value { IfOk result (λ made. made ≡ install_move processor changes rows actor (desk_at (state_of world.now.tables) actor)) }
     ensures names { IfOk result (λ made. IsDistinct same_name (map (λ row. row.name) changes.rows)) }
 {
     let applied = changes.items;

@@ -2,18 +2,17 @@ ghost use Rattle.std.specs.Prelude.{◌≡◌, ◌<◌, length, Some, IfOk, IsTr
 ghost use Rattle.ax_claims.specs.Rows.{row_at};
 ghost use Rattle.ax_state.specs.Setting.{is_projection};
 ghost use Rattle.ax_state.specs.State.{desk_at};
-ghost use Rattle.ax_state.specs.Holding.{held_fence};
-ghost use Rattle.ax_world.specs.WorldTables.{state_of, processor_tables_at};
+ghost use Rattle.ax_world.specs.Holding.{held_fence};
+ghost use Rattle.ax_world.specs.WorldTables.{state_of, rows_at};
 ghost use Rattle.ax_world.specs.Moves.{IsMove};
 ghost use Rattle.ax_step_work.specs.Working.{fetch_at, fetched, batch_of};
 
 use crate::bound::{count_fetched, fetched_token};
-use crate::held::{held_check, held_fence};
 use ax_claims::TokenRow;
 use ax_journal::Reply;
 use ax_segments::Segment;
 use ax_values::{Duplicate, NoMemory};
-use ax_world::{Batch, Edit, Edits, Move, World};
+use ax_world::{Batch, Edit, Edits, Move, World, held_check, held_fence};
 use std::alloc::Global;
 
 /// Puts a batch of at most so many records on the actor's desk.
@@ -52,13 +51,13 @@ fn fetch_row(
 ) -> Result<Move, NoMemory>
     requires projection { IsTrue (is_projection world.now.tables.setting processor) }
     requires actor { actor < length world.now.tables.setting.actors }
-    requires found { row_at row.now.segment (processor_tables_at world.now.tables processor).processor_state.rows ≡ Some row.now }
+    requires found { row_at row.now.segment (rows_at world.now.tables processor) ≡ Some row.now }
     requires held { held_fence processor row.now.segment (desk_at (state_of world.now.tables) actor).held ≡ Some row.now.fence }
     ensures { IfOk result (IsMove world.now.tables (fetched (state_of world.now.tables) actor (batch_of (state_of world.now.tables) processor row.now.segment most row.now))) }
 {
     let cells = world.log().cells();
-    let new = fetched_token(alloc, row.segment, &row.token, cells, most)?;
-    let records = count_fetched(row.segment, &row.token, &new, cells);
+    let new = fetched_token(alloc, None, row.segment, &row.token, cells, most)?;
+    let records = count_fetched(None, row.segment, &row.token, &new, cells);
     let batch = Batch {
         processor,
         segment: row.segment,

@@ -125,19 +125,20 @@ fn handle_items(
     Ok(None)
 }
 
-/// The items of a cell that are of the batch.
+/// The items of a cell that are of the batch. Where the processor is whole, `whole` is its name, here and below.
 fn cell_items(
     alloc: Global,
+    whole: Option<&Name>,
     chain: &Chain,
     batch: &Batch,
     index: u32,
     cell: &Cell,
 ) -> Result<Items, NoMemory>
-    ensures value { IfOk result (λ items. items ≡ cell_items chain.now batch.now index cell.now) }
+    ensures value { IfOk result (λ items. items ≡ cell_items (option_copied whole.entry) chain.now batch.now index cell.now) }
     ensures few { IfOk result (λ items. length items ≤ 8) }
 {
     if let Cell::Event(event) = cell {
-        if is_fetched(batch.segment, &batch.old, &batch.new, index, event) {
+        if is_fetched(whole, batch.segment, &batch.old, &batch.new, index, event) {
             return chain.upcast(alloc, event);
         }
     }
@@ -148,6 +149,7 @@ fn cell_items(
 /// the row of its aggregate.
 pub(crate) fn handle_batch(
     alloc: Global,
+    whole: Option<&Name>,
     chain: &Chain,
     rules: &Rules,
     kept: &Table,
@@ -156,7 +158,7 @@ pub(crate) fn handle_batch(
 ) -> Result<Result<Changes, Failed>, NoMemory>
     requires size { length cells.now ≤ 200000 }
     requires fits { IsFitting rules.now kept.now.entries nothing }
-    ensures { IfOk result (λ made. made ≡ handled rules.now kept.now.entries (plain_items (batch_items chain.now batch.now (events cells.now))) nothing) }
+    ensures { IfOk result (λ made. made ≡ handled rules.now kept.now.entries (plain_items (batch_items (option_copied whole.entry) chain.now batch.now (events cells.now))) nothing) }
 {
     let (first, part) = fetchable(&batch.old, &batch.new, cells);
     let mut changes = Changes {
@@ -164,7 +166,7 @@ pub(crate) fn handle_batch(
         items: 0,
     };
     for (offset, cell) in part.iter().enumerate() {
-        let items = cell_items(alloc, chain, batch, first + offset as u32, cell)?;
+        let items = cell_items(alloc, whole, chain, batch, first + offset as u32, cell)?;
         if let Some(failed) = handle_items(alloc, rules, kept, &mut changes, items.parts())? {
             return Ok(Err(failed));
         }

@@ -5,7 +5,6 @@ mod bound;
 mod committing;
 mod fetching;
 mod handling;
-mod held;
 mod reach;
 mod steps;
 

@@ -1,11 +1,8 @@
-ghost use Rattle.std.specs.Prelude.{◌≡◌, ℕ, suc, ◌+◌, ◌<◌, ◌≤◌, true, false, IsTrue, length, filter};
-ghost use Rattle.ax_log.specs.Log.{events_from, events};
-ghost use Rattle.ax_segments.specs.Segments.{Segment as SegmentOf};
+ghost use Rattle.std.specs.Prelude.{◌≡◌, ℕ, suc, ◌+◌, ◌<◌, ◌≤◌, true, false, IsTrue, length};
 ghost use Rattle.ax_tokens.specs.Nodes.{token_of};
 ghost use Rattle.ax_tokens.specs.Plain.{has};
 ghost use Rattle.ax_tokens.specs.Tokens.{misses};
-ghost use Rattle.ax_step_work.specs.Working.{is_fetched};
-ghost use Rattle.ax_step_work.specs.Reach.{IsCoveredBelow, IsOpenFrom, some_has};
+ghost use Rattle.ax_step_work.specs.Reach.{IsCoveredBelow, IsOpenFrom, HasFetched, some_has};
 
 use ax_tokens::{Plain, Token};
 use ax_values::Cell;
@@ -55,7 +52,7 @@ pub(crate) fn high_of(token: &Token) -> u32
 /// first of these cells.
 pub(crate) fn fetchable<'a>(old: &Token, new: &Token, cells: &'a [Cell]) -> (u32, &'a [Cell])
     ensures within { result.0 + length result.1.now ≤ length cells.now }
-    ensures all { (segment : SegmentOf) → filter (is_fetched segment (token_of old.now) (token_of new.now)) (events_from result.0 result.1.now) ≡ filter (is_fetched segment (token_of old.now) (token_of new.now)) (events cells.now) }
+    ensures all { HasFetched (token_of old.now) (token_of new.now) cells.now result.0 result.1.now }
 {
     let high = (high_of(new) as usize).min(cells.len());
     let low = (low_of(old) as usize).min(high);

@@ -1,6 +1,5 @@
 pub mod OneProcessorChanges
 pub mod Rooms
-pub mod Segments
 pub mod Starts
 pub mod StepMoves
 pub mod ProcessorStates

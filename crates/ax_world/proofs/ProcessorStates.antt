@@ -5,6 +5,7 @@ use Rattle.ax_log.specs.Log.{events}
 use Rattle.ax_claims.specs.Rows.{TokenRow}
 use Rattle.ax_state.specs.Every.{AllFrom, option_or}
 use Rattle.ax_state.specs.State.{ProcessorState, empty_processor, processor_state_at, with_rows}
+use Rattle.ax_state.specs.Setting.{whole_at}
 use Rattle.ax_state.specs.Portions.{portions, covered_events}
 use Rattle.ax_state.proofs.Lists.{AllFrom-set, AllFrom-get}
 use Rattle.ax_world.specs.WorldTables.{WorldTables, ProcessorTables, no_tables, state_of, processor_tables_at}
@@ -37,9 +38,9 @@ state-rows w p rows =
 pub tables-rows : (w : WorldTables) (p : ℕ) (rows : List TokenRow) → p < length w.processor_tables → portions rows ≡ portions (processor_tables_at w p).processor_state.rows → AllFrom (IsTable w.setting (events w.cells)) 0 w.processor_tables
     → AllFrom (IsTable w.setting (events w.cells)) 0 (edit_applied w (Edit.SetRows p rows)).processor_tables
 tables-rows w p rows lt same h =
-    AllFrom-set (IsTable w.setting (events w.cells)) 0 w.processor_tables p (with_state (record (processor_tables_at w p).processor_state { rows = rows }) (processor_tables_at w p)) h (λ k e a.
-    AllFrom-get (IsTable w.setting (events w.cells)) 0 w.processor_tables p (processor_tables_at w p) h (get-at no_tables w.processor_tables p lt) k e a
-    ∙ ap (λ ps. folded_row w.setting k (covered_events ps (events w.cells)) (processor_tables_at w p).processor_state a) (sym same))
+    AllFrom-set (IsTable w.setting (events w.cells)) 0 w.processor_tables p (with_state (record (processor_tables_at w p).processor_state { rows = rows }) (processor_tables_at w p)) h (λ k e projection a.
+    AllFrom-get (IsTable w.setting (events w.cells)) 0 w.processor_tables p (processor_tables_at w p) h (get-at no_tables w.processor_tables p lt) k e projection a
+    ∙ ap (λ ps. folded_row w.setting k (covered_events (whole_at w.setting k) ps (events w.cells)) (processor_tables_at w p).processor_state a) (sym same))
 
 -- each declared processor has a place
 pub place-declared : (w : WorldTables) (p : ℕ) → IsWorld w → p < length w.setting.processors → p < length w.processor_tables

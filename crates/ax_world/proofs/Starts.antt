@@ -15,7 +15,7 @@ processor_states-bare (x ∷ xs) = ap (λ ys. x ∷ ys) (processor_states-bare x
 
 tables-bare : (s : Setting) (p : ℕ) (processor_states : List ProcessorState) → AllFrom (IsTable s []) p (map bare processor_states)
 tables-bare s p [] = tt
-tables-bare s p (x ∷ xs) = (λ a. refl, tables-bare s (suc p) xs)
+tables-bare s p (x ∷ xs) = (λ projection a. refl, tables-bare s (suc p) xs)
 
 -- the state of the starting world is the starting state
 pub state-starting : (s : Setting) → state_of (starting s) ≡ start s

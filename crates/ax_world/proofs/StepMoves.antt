@@ -1,17 +1,19 @@
 -- Steps that change nothing, and edits that lead to a well-formed state.
-use Rattle.std.proofs.Common.{◌≡◌, ℕ, suc, ◌≤◌, List, [], ◌∷◌, refl, sym, ap, ◌∙◌, subst, arith}
+use Rattle.std.proofs.Common.{◌≡◌, ℕ, suc, ◌≤◌, List, [], ◌∷◌, map, refl, sym, ap, ◌∙◌, subst, arith}
 use Rattle.ax_log.specs.Log.{Stored, events}
 use Rattle.ax_state.specs.Every.{AllFrom, count}
-use Rattle.ax_state.specs.Setting.{Setting}
-use Rattle.ax_state.specs.Portions.{portions, covered_events}
-use Rattle.ax_state.specs.WellFormed.{IsWellFormed}
+use Rattle.ax_state.specs.Setting.{Setting, whole_at}
+use Rattle.ax_state.specs.Portions.{portions}
+use Rattle.ax_state.specs.WellFormed.{IsProcessorState, IsWellFormed}
 use Rattle.ax_state.specs.Answer.{Answer, answer}
+use Rattle.ax_state.proofs.Growth.{IsGrowth, covered-later}
 use Rattle.ax_world.specs.WorldTables.{WorldTables, ProcessorTables, state_of}
 use Rattle.ax_world.specs.EditsApplied.{edits_applied}
 use Rattle.ax_world.specs.Fits.{IsWorld, IsTable, CanMakeAll, is_cells, folded_row}
 use Rattle.ax_world.specs.Moves.{IsMove}
 use Rattle.ax_world.specs.declared.edit.Edit.{Edit}
 use Rattle.ax_journal.specs.declared.reply.Reply.{Reply}
+use Rattle.ax_values.specs.declared.cell.Cell.{Cell}
 
 pub unmoved : (w : WorldTables) (reply : Reply) → IsWorld w → IsMove w (answer (state_of w) reply) (record { edits = []; reply = reply; report = [] })
 unmoved w reply h = record { fits = record { single = omega arith; can = tt; world = h }; state = refl; reply = refl; report = refl }
@@ -34,8 +36,10 @@ moved w es a reply h single can state kept setting tables r report = record {
   report = report;
 }
 
--- tables stay folds where the covered events of each processor stay
-pub tables-kept : (setting : Setting) (es later : List Stored) (p : ℕ) (xs : List ProcessorTables) → AllFrom (λ q x. covered_events (portions x.processor_state.rows) later ≡ covered_events (portions x.processor_state.rows) es) p xs → AllFrom (IsTable setting es) p xs → AllFrom (IsTable setting later) p xs
-tables-kept setting es later p [] c h = tt
-tables-kept setting es later p (x ∷ xs) c h =
-    ((λ a. h.0 a ∙ ap (λ cs. folded_row setting p cs x.processor_state a) (sym c.0)), tables-kept setting es later (suc p) xs c.1 h.1)
+-- tables stay folds where the cells grow
+pub tables-grown : (setting : Setting) (cells later : List Cell) → IsGrowth cells later → (p : ℕ) (xs : List ProcessorTables) → AllFrom (IsProcessorState setting cells) p (map (λ x. x.processor_state) xs) → AllFrom (IsTable setting (events cells)) p xs → AllFrom (IsTable setting (events later)) p xs
+tables-grown setting cells later g p [] was h = tt
+tables-grown setting cells later g p (x ∷ xs) was h = (
+  (λ projection a. h.0 projection a ∙ ap (λ (cs : List Stored). folded_row setting p cs x.processor_state a) (sym (covered-later cells later g (whole_at setting p) (portions x.processor_state.rows) was.0.tokens))),
+  tables-grown setting cells later g (suc p) xs was.1 h.1,
+)

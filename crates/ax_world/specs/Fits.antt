@@ -1,5 +1,5 @@
 -- What every world keeps, and which edits can be made of it.
-use Rattle.std.specs.Prelude.{◌≡◌, ℕ, ◌+◌, ◌-◌, ◌^◌, ◌<◌, ◌≤◌, ◌==◌, Bool, true, false, List, [], ◌∷◌, length, Option, Some, None, nat_lt, if◌then◌else◌}
+use Rattle.std.specs.Prelude.{◌≡◌, ℕ, ◌+◌, ◌-◌, ◌^◌, ◌<◌, ◌≤◌, ◌==◌, Bool, true, false, List, [], ◌∷◌, length, Option, Some, None, IsTrue, nat_lt, if◌then◌else◌}
 use Rattle.std.specs.List.{AllByRecursion}
 use Rattle.ax_values.specs.Grammar.{Name}
 use Rattle.ax_log.specs.Log.{Stored, events}
@@ -7,7 +7,7 @@ use Rattle.ax_log.specs.Puts.{CanPutAll, Room as LogRoom, HasRoom as HasLogRoom}
 use Rattle.ax_rules.specs.Rules.{start_row, row_or}
 use Rattle.ax_projections.specs.Table.{look_up}
 use Rattle.ax_state.specs.Every.{AllFrom, count, one}
-use Rattle.ax_state.specs.Setting.{Setting, IsSetting, projection_at}
+use Rattle.ax_state.specs.Setting.{Setting, IsSetting, projection_at, is_projection, whole_at}
 use Rattle.ax_state.specs.State.{ProcessorState}
 use Rattle.ax_state.specs.Positions.{first_letter, drops_of}
 use Rattle.ax_state.specs.Portions.{portions, covered_events, position_by, row_by}
@@ -22,14 +22,16 @@ use Rattle.ax_world.specs.declared.edit.Edit.{Edit}
 -- the row of an aggregate by the covered events cs, where its position is at least 1
 abbrev pub row_if : Setting → ℕ → List Stored → ProcessorState → Name → ℕ → Option Positioned
 row_if setting p cs processor_state a n =
-    if nat_lt 0 n then Some (record { position = n; row = row_or (start_row (projection_at setting p).fields) (row_by (projection_at setting p) setting.sheet.chain cs (first_letter processor_state a) (drops_of processor_state) a) }) else None
+    if nat_lt 0 n
+    then Some (record { position = n; row = row_or (start_row (projection_at setting p).fields) (row_by (projection_at setting p) setting.sheet.chain cs (first_letter (whole_at setting p) processor_state a) (drops_of processor_state) a) })
+    else None
 
 abbrev pub folded_row : Setting → ℕ → List Stored → ProcessorState → Name → Option Positioned
-folded_row setting p cs processor_state a = row_if setting p cs processor_state a (position_by setting.sheet.chain cs (first_letter processor_state a) a)
+folded_row setting p cs processor_state a = row_if setting p cs processor_state a (position_by setting.sheet.chain cs (first_letter (whole_at setting p) processor_state a) a)
 
--- each kept row is the fold of the log, and each fold is kept
+-- of a projection: each kept row is the fold of the log, and each fold is kept
 abbrev pub IsTable : Setting → List Stored → ℕ → ProcessorTables → Type 0
-IsTable setting es p x = (a : Name) → look_up a x.table ≡ folded_row setting p (covered_events (portions x.processor_state.rows) es) x.processor_state a
+IsTable setting es p x = IsTrue (is_projection setting p) → (a : Name) → look_up a x.table ≡ folded_row setting p (covered_events (whole_at setting p) (portions x.processor_state.rows) es) x.processor_state a
 
 pub record IsWorld (w : WorldTables) : Type 0 where
   pub setting : IsSetting w.setting

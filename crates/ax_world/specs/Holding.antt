@@ -1,4 +1,4 @@
--- Fences that a desk holds, and the check of orders on a held segment.
+-- The fences that a desk holds, and the check of orders on a held segment.
 use Rattle.std.specs.Prelude.{ℕ, ◌==◌, Bool, ◌&&◌, List, find, Option, Some, None, option_map, if◌then◌else◌}
 use Rattle.ax_segments.specs.Segments.{Segment, same_segment}
 use Rattle.ax_claims.specs.Rows.{TokenRow, row_at}

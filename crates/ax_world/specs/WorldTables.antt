@@ -2,6 +2,7 @@
 use Rattle.std.specs.Prelude.{ℕ, List, [], map, slice_get}
 use Rattle.ax_log.specs.Puts.{Room as LogRoom}
 use Rattle.ax_projections.specs.Table.{Entry}
+use Rattle.ax_claims.specs.Rows.{TokenRow}
 use Rattle.ax_state.specs.Every.{option_or}
 use Rattle.ax_state.specs.Setting.{Setting}
 use Rattle.ax_state.specs.State.{State, ProcessorState, Desk, empty_processor, empty_desk, first_processors, row_count}
@@ -39,6 +40,10 @@ processor_tables_in processor_tables p = option_or no_tables (slice_get processo
 
 abbrev pub processor_tables_at : WorldTables → ℕ → ProcessorTables
 processor_tables_at w p = processor_tables_in w.processor_tables p
+
+-- the token rows of a processor
+abbrev pub rows_at : WorldTables → ℕ → List TokenRow
+rows_at w p = (processor_tables_at w p).processor_state.rows
 
 -- no row is kept at the start
 abbrev pub bare : ProcessorState → ProcessorTables

@@ -1,5 +1,5 @@
 ghost use Rattle.std.specs.Prelude.{◌≡◌, IfOk};
-ghost use Rattle.ax_state.specs.Holding.{is_held_at};
+ghost use Rattle.ax_world.specs.Holding.{is_held_at};
 
 use ax_segments::Segment;
 use ax_tokens::Token;

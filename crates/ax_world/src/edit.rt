@@ -36,7 +36,7 @@ pub enum Edit {
 /// Changes that are made one after another.
 pub type Edits = ListOf<Edit>;
 
-/// What a step makes of the world, and what it answers.
+/// What a step makes of the world: its changes, the reply, and the lines of its report.
 #[derive(Drop)]
 pub struct Move {
     pub edits: Edits,

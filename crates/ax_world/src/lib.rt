@@ -3,6 +3,7 @@
 
 mod desk;
 mod edit;
+mod holding;
 mod named;
 mod parts;
 mod place;
@@ -11,4 +12,5 @@ mod world;
 
 pub use desk::{Batch, Desk, Held, HeldList, Reservation};
 pub use edit::{Edit, Edits, Move};
+pub use holding::{held_check, held_fence};
 pub use world::World;

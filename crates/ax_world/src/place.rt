@@ -1,8 +1,8 @@
-ghost use Rattle.std.specs.Prelude.{◌≡◌, ℕ, ◌+◌, ◌^◌, ◌<◌, ◌≤◌, ◌==◌, map, length, slice_set, OnOk};
+ghost use Rattle.std.specs.Prelude.{◌≡◌, ℕ, ◌+◌, ◌^◌, ◌<◌, ◌≤◌, ◌==◌, map, length, OnOk};
 ghost use Rattle.ax_projections.specs.Table.{put_entry};
 ghost use Rattle.ax_state.specs.Every.{count, one};
 ghost use Rattle.ax_world.specs.WorldTables.{processor_tables_in, room_in};
-ghost use Rattle.ax_world.specs.EditsApplied.{with_state};
+ghost use Rattle.ax_world.specs.EditsApplied.{with_state, rows_set, row_put};
 ghost use Rattle.ax_world.specs.Fits.{HasPlaceFor, puts_row};
 
 use crate::Edit;
@@ -60,7 +60,7 @@ impl ProcessorTables {
 
 pub(crate) fn set_rows(processor_tables: &mut Vec<ProcessorTables>, processor: u32, rows: Rows)
     requires { processor < length processor_tables.old.items }
-    ensures processor_tables { map (λ x. x.place) processor_tables.new.items ≡ slice_set (map (λ x. x.place) processor_tables.old.items) processor (with_state (record (processor_tables_in (map (λ x. x.place) processor_tables.old.items) processor).processor_state { rows = rows }) (processor_tables_in (map (λ x. x.place) processor_tables.old.items) processor)) }
+    ensures processor_tables { map (λ x. x.place) processor_tables.new.items ≡ rows_set processor rows (map (λ x. x.place) processor_tables.old.items) }
     ensures rooms { map (λ x. x.room) processor_tables.new.items ≡ map (λ x. x.room) processor_tables.old.items }
 {
     let place = &mut processor_tables[processor as usize];
@@ -76,7 +76,7 @@ pub(crate) fn put_row(
     requires declared { processor < length processor_tables.old.items }
     requires place { HasPlaceFor aggregate (processor_tables_in (map (λ x. x.place) processor_tables.old.items) processor) }
     requires room { 0 < room_in (map (λ x. x.room) processor_tables.old.items) processor }
-    ensures processor_tables { map (λ x. x.place) processor_tables.new.items ≡ slice_set (map (λ x. x.place) processor_tables.old.items) processor (record (processor_tables_in (map (λ x. x.place) processor_tables.old.items) processor) { table = put_entry aggregate value (processor_tables_in (map (λ x. x.place) processor_tables.old.items) processor).table }) }
+    ensures processor_tables { map (λ x. x.place) processor_tables.new.items ≡ row_put processor aggregate value (map (λ x. x.place) processor_tables.old.items) }
     ensures rooms { (q : ℕ) → room_in (map (λ x. x.room) processor_tables.old.items) q ≤ room_in (map (λ x. x.room) processor_tables.new.items) q + one (processor == q) }
 {
     let place = &mut processor_tables[processor as usize];

@@ -31,7 +31,7 @@ pub(crate) fn first_places(
     Ok(processor_tables)
 }
 
-#[tactic(auto, using(crate::proofs::Segments::segment_counts))]
+#[tactic(auto, using(ax_state::proofs::SegmentCounts::segment_counts))]
 fn first_place(alloc: Global, segments: u32, fence: u64) -> Result<ProcessorTables, NoMemory>
     requires count { IsTrue (is_segment_count segments) }
     requires fences { fence < 2 ^ 60 }
