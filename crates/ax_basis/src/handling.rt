@@ -23,7 +23,12 @@ pub(crate) fn results_of(alloc: Global, rules: &Rules, basis: &Basis) -> Result<
 }
 
 /// What is made of a share.
-fn share_result(alloc: Global, rules: &Rules, keep: bool, share: &Share) -> Result<ShareResult, NoMemory>
+fn share_result(
+    alloc: Global,
+    rules: &Rules,
+    keep: bool,
+    share: &Share,
+) -> Result<ShareResult, NoMemory>
     requires { IsTrue (members_fit rules.now share.now.members) }
     ensures { IfOk result (λ made. made ≡ share_result rules.now keep share.now) }
 {
@@ -102,9 +107,15 @@ fn outcomes(
 }
 
 /// The row after an item, or why it fails.
-fn tried(alloc: Global, rules: &Rules, row: &Row, item: &BasisItem) -> Result<Result<Row, Why>, NoMemory>
+fn tried(
+    alloc: Global,
+    rules: &Rules,
+    row: &Row,
+    item: &BasisItem,
+) -> Result<Result<Row, Why>, NoMemory>
     requires { IsTrue (row_fits rules.now row.now) }
-    ensures { IfOk result (λ made. made ≡ tried item.now.marked (applied rules.now row.now item.now.item)) }
+    ensures value { IfOk result (λ made. made ≡ tried item.now.marked (applied rules.now row.now item.now.item)) }
+    ensures fits { IfOk result (λ made. IfOk made (λ row. IsTrue (row_fits rules.now row))) }
 {
     if item.marked {
         return Ok(Err(Why::Marked));
