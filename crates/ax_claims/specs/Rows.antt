@@ -1,5 +1,6 @@
 -- Token rows: what a processor keeps of each of its segments.
 use Rattle.std.specs.Prelude.{◌≡◌, ℕ, zero, suc, ◌-◌, ◌^◌, ◌<◌, Bool, not, List, [], ◌∷◌, length, filter, find, Option, Some, None, IsTrue, nat_lt}
+use Rattle.std.specs.List.{AllByRecursion}
 use Rattle.std.specs.declared.cmp.Ordering.{Ordering}
 use Rattle.ax_values.specs.Grammar.{Name}
 use Rattle.ax_values.specs.Words.{put_rising, rises, place_where}
@@ -50,8 +51,7 @@ abbrev pub MatchOnce : List TokenRow → Type 0
 MatchOnce rows = (h : ℕ) → h < 2 ^ 32 → length (filter (λ r. matches r.segment h) rows) ≡ 1
 
 abbrev pub AreSegments : List TokenRow → Type 0
-AreSegments [] = Unit {0}
-AreSegments (r ∷ rows) = IsSegment r.segment × AreSegments rows
+AreSegments rows = AllByRecursion (λ r. IsSegment r.segment) rows
 
 pub record AreRows (rows : List TokenRow) : Type 0 where
   pub order : IsTrue (rises row_below rows)

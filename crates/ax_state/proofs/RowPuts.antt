@@ -40,16 +40,16 @@ once-portions h (r ∷ rows) =
     ≡ length (if b then r ∷ filter (λ r. matches r.segment h) rows else filter (λ r. matches r.segment h) rows))
     [ true ↦ ap suc (once-portions h rows) | false ↦ once-portions h rows ]
 
-pub parts-of : (rows : List TokenRow) → AllByRecursion (λ r. IsSegment r.segment) rows → AreRows rows → AreParts (portions rows)
-parts-of rows each h = record {
-  each = All-portions (λ x. IsSegment x.segment) rows each;
+pub parts-of : (rows : List TokenRow) → AreRows rows → AreParts (portions rows)
+parts-of rows h = record {
+  each = All-portions (λ x. IsSegment x.segment) rows h.segments;
   order = sym (rises-portions rows) ∙ h.order;
   once = λ k small. once-portions k rows ∙ h.once k small;
 }
 
 -- the rows of portions
 pub rows-of : (rows : List TokenRow) → AreParts (portions rows) → AreRows rows
-rows-of rows h = record { order = rises-portions rows ∙ h.order; once = λ k small. sym (once-portions k rows) ∙ h.once k small }
+rows-of rows h = record { order = rises-portions rows ∙ h.order; segments = All-rows (λ x. IsSegment x.segment) rows h.each; once = λ k small. sym (once-portions k rows) ∙ h.once k small }
 
 -- ids rise, and are at most the largest mask
 few-from : (n : ℕ) (x : Portion) (xs : List Portion) → n ≤ x.segment.id → AllByRecursion (λ y. IsSegment y.segment) (x ∷ xs) → rises below (x ∷ xs) ≡ true → n + length (x ∷ xs) ≤ 65536
@@ -106,8 +106,7 @@ module _ (rows : List TokenRow) (k : ℕ) (r n : TokenRow) (parts : AreParts (po
 
   pub put-parts : AreParts (portions (put_row n rows))
   put-parts =
-      let each : AllByRecursion (λ x. IsSegment x.segment) rows = All-rows (λ x. IsSegment x.segment) rows parts.each in
-      parts-of (put_row n rows) (put-all (λ x. IsSegment x.segment) each (subst IsSegment (sym same) (All-get (λ x. IsSegment x.segment) rows k r each at)))
+      parts-of (put_row n rows)
       (subst AreRows (sym put-set) (rows-kept n rows k r (rows-of rows parts) at same))
 
   -- where the token is the same, nothing changes

@@ -61,7 +61,7 @@ place-first : (setting : Setting) (p n fence : ℕ) → IsTrue (is_segment_count
 place-first setting p n fence h =
     let rows : AllByRecursion (IsFirst (n - 1) fence (fence + n)) (starting n fence) = rows-first n fence (fence + n) h (omega arith) in
     record {
-      parts = parts-of (starting n fence) (All-map (IsFirst (n - 1) fence (fence + n)) (λ r. IsSegment r.segment) (λ r f. f.segment) (starting n fence) rows) (are-starting n fence (some-segments n (power_of_count n h)));
+      parts = parts-of (starting n fence) (are-starting n fence (some-segments n (power_of_count n h)) (power_of_count n h) (let few : n ≤ 16 = few_of_count n h in omega arith));
       tokens = All-portions (λ x. IsTokenOver [] x.segment.mask x.token) (starting n fence) (All-map (IsFirst (n - 1) fence (fence + n)) (λ r. IsTokenOver [] r.segment.mask r.token) (λ r f. f.token) (starting n fence) rows);
       folded = record { prefixes = λ a. refl; rows = λ e a. refl };
       gaps = λ e. All-portions (λ x. IsTrue (has_no_gaps x.token)) (starting n fence) (All-map (IsFirst (n - 1) fence (fence + n)) (λ r. IsTrue (has_no_gaps r.token)) (λ r f. f.gaps) (starting n fence) rows);
