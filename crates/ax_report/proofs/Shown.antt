@@ -1,5 +1,5 @@
 -- The rows that a world keeps, and those of a rebuild, are the rows that the definitions show.
-use Rattle.std.proofs.Common.{◌≡◌, ℕ, zero, suc, ◌+◌, ◌<◌, Bool, true, false, not, ◌||◌, List, [], ◌∷◌, ◌++◌, map, length, filter, flat_map, take, drop, Some, None, Result, Ok, Err, OnOk, IsTrue, nat_lt, slice_get, if◌then◌else◌, refl, sym, ap, ◌∙◌, subst, arith, append_assoc}
+use Rattle.std.proofs.Common.{◌≡◌, ℕ, zero, suc, ◌+◌, ◌<◌, Bool, true, false, not, ◌||◌, List, [], ◌∷◌, ◌++◌, map, length, filter, flat_map, take, drop, Option, Some, None, Result, Ok, Err, OnOk, IsTrue, nat_lt, slice_get, if◌then◌else◌, refl, sym, ap, ◌∙◌, subst, arith, append_assoc}
 use Rattle.std.specs.List.{list_any}
 use Rattle.std.proofs.lemmas.List.{append-nil}
 use Rattle.std.proofs.lemmas.Bool.Decides.{nat_tests}
@@ -13,7 +13,7 @@ use Rattle.ax_projections.specs.Rebuild.{rebuilt, first_names, folded}
 use Rattle.ax_projections.proofs.NameLaws.{name-sym, any-firsts, found, missing}
 use Rattle.ax_projections.proofs.RebuildLaws.{own, is_own, items-own}
 use Rattle.ax_state.specs.Every.{option_or}
-use Rattle.ax_state.specs.Setting.{is_projection, processor_at, projection_at, no_processor}
+use Rattle.ax_state.specs.Setting.{is_projection, processor_at, projection_at, no_processor, whole_at}
 use Rattle.ax_state.specs.State.{State, ProcessorState, empty_processor, processor_state_at}
 use Rattle.ax_state.specs.Positions.{rows_of, shown_at, rebuilt_at, rebuilt_rows, position_in, covered_in}
 use Rattle.ax_state.specs.Portions.{portions, covered_events}
@@ -27,7 +27,7 @@ use Rattle.ax_world.specs.Moves.{IsMove}
 use Rattle.ax_world.proofs.Projections.{projection-within}
 use Rattle.ax_world.proofs.ProcessorStates.{get-at, processor_state-place, place-declared}
 use Rattle.ax_world.specs.declared.edit.Move.{Move}
-use Rattle.ax_report.specs.Reports.{listed, line_of, row_line, processor_line, rows_report, rebuilt_lines, rebuild_from, unless_saga, AreNames, AddsRows}
+use Rattle.ax_report.specs.Reports.{listed, line_of, row_line, processor_line, rows_report, rebuilt_lines, processor_lines, rebuild_from, unless_saga, AreNames, AddsRows}
 use Rattle.ax_report.proofs.Listed.{row_shown, in-order}
 use Rattle.ax_values.specs.declared.cell.Cell.{Cell}
 use Rattle.ax_upcast.specs.declared.upcaster.Upcaster.{Upcaster}
@@ -105,19 +105,19 @@ drop-processor (q ∷ qs) zero h = refl
 drop-processor (q ∷ qs) (suc i) h = drop-processor qs i (omega arith)
 
 -- one processor more
-pub next-processor : (m : State) (i : ℕ) (old new all : List Line) → i < length m.setting.processors → new ≡ old ++ unless_saga (processor_at m.setting i).saga (rebuilt_lines m i (processor_at m.setting i))
+pub next-processor : (m : State) (i : ℕ) (old new all : List Line) → i < length m.setting.processors → new ≡ old ++ processor_lines m i
     → old ++ rebuild_from m i (drop i m.setting.processors) ≡ all → new ++ rebuild_from m (i + 1) (drop (i + 1) m.setting.processors) ≡ all
 next-processor m i old new all lt is h =
     let one : i + 1 ≡ suc i = omega arith in
     ap (λ j. new ++ rebuild_from m j (drop j m.setting.processors)) one ∙ ap (λ xs. xs ++ rebuild_from m (suc i) (drop (suc i) m.setting.processors)) is
-    ∙ append_assoc old (unless_saga (processor_at m.setting i).saga (rebuilt_lines m i (processor_at m.setting i))) (rebuild_from m (suc i) (drop (suc i) m.setting.processors))
+    ∙ append_assoc old (processor_lines m i) (rebuild_from m (suc i) (drop (suc i) m.setting.processors))
     ∙ ap (λ qs. old ++ rebuild_from m i qs) (sym (drop-processor m.setting.processors i lt)) ∙ h
 
-pub skipped : (m : State) (p : ℕ) (old : List Line) → (processor_at m.setting p).saga ≡ true → old ≡ old ++ unless_saga (processor_at m.setting p).saga (rebuilt_lines m p (processor_at m.setting p))
+pub skipped : (m : State) (p : ℕ) (old : List Line) → (processor_at m.setting p).saga ≡ true → old ≡ old ++ processor_lines m p
 skipped m p old e = sym (append-nil old) ∙ ap (λ b. old ++ unless_saga b (rebuilt_lines m p (processor_at m.setting p))) (sym e)
 
 pub not-skipped : (m : State) (p : ℕ) (old new : List Line) → (processor_at m.setting p).saga ≡ false → new ≡ old ++ rebuilt_lines m p (processor_at m.setting p)
-    → new ≡ old ++ unless_saga (processor_at m.setting p).saga (rebuilt_lines m p (processor_at m.setting p))
+    → new ≡ old ++ processor_lines m p
 not-skipped m p old new e h = h ∙ ap (λ b. old ++ unless_saga b (rebuilt_lines m p (processor_at m.setting p))) (sym e)
 
 -- ---- kept rows
@@ -126,23 +126,29 @@ filter-none : {A B : Type 0} (t : B → Bool) (f : A → List B) (xs : List A) �
 filter-none t f [] h = absurd (cc)
 filter-none t f (x ∷ xs) h = omega arith
 
-module _ (w : WorldTables) (p : ℕ) (h : IsWorld w) (lt : p < length w.setting.processors) where
-  there : slice_get (state_of w).processor_states p ≡ Some (processor_state_at (state_of w) p)
-  there = get-at empty_processor (state_of w).processor_states p (let d : length (state_of w).processor_states ≡ length w.setting.processors = h.state.declared in omega arith)
+module _ (w : WorldTables) (p : ℕ) (h : IsWorld w) (projection : IsTrue (is_projection w.setting p)) where
+  lt : p < length w.setting.processors
+  lt = projection-within w.setting.processors p projection
 
-  prefixes : CoverPrefix (events w.cells) (portions (processor_state_at (state_of w) p).rows)
+  there : slice_get (state_of w).processor_states p ≡ Some (processor_state_at (state_of w) p)
+  there = get-at empty_processor (state_of w).processor_states p (let d : length (state_of w).processor_states ≡ length w.setting.processors = h.state.declared in let k : p < length w.setting.processors = lt in omega arith)
+
+  abbrev whole : Option Name
+  whole = whole_at w.setting p
+
+  prefixes : CoverPrefix whole (events w.cells) (portions (processor_state_at (state_of w) p).rows)
   prefixes = (AllFrom-get (IsProcessorState w.setting w.cells) 0 (state_of w).processor_states p (processor_state_at (state_of w) p) h.state.processors there p (omega arith)).folded.prefixes
 
-  kept : (a : Name) → look_up a (processor_tables_at w p).table ≡ folded_row w.setting p (covered_events (portions (processor_tables_at w p).processor_state.rows) (events w.cells)) (processor_tables_at w p).processor_state a
-  kept = AllFrom-get (IsTable w.setting (events w.cells)) 0 w.processor_tables p (processor_tables_at w p) h.tables (get-at no_tables w.processor_tables p (place-declared w p h lt)) p (omega arith)
+  kept : (a : Name) → look_up a (processor_tables_at w p).table ≡ folded_row w.setting p (covered_events whole (portions (processor_tables_at w p).processor_state.rows) (events w.cells)) (processor_tables_at w p).processor_state a
+  kept = AllFrom-get (IsTable w.setting (events w.cells)) 0 w.processor_tables p (processor_tables_at w p) h.tables (get-at no_tables w.processor_tables p (place-declared w p h lt)) p (omega arith) projection
 
   shown-look_up : (a : Name) → look_up a (processor_tables_at w p).table ≡ row_shown (shown_at (state_of w) p a)
   shown-look_up a =
       kept a
-      ∙ ap (λ (x : ProcessorState). folded_row w.setting p (covered_events (portions x.rows) (events w.cells)) x a) (sym (processor_state-place w p))
-      ∙ ap (λ n. row_if w.setting p (covered_events (portions (processor_state_at (state_of w) p).rows) (events w.cells)) (processor_state_at (state_of w) p) a n) (sym (same-position w.setting.sheet.chain w.cells (processor_state_at (state_of w) p) a))
-      ∙ ap (λ r. if nat_lt 0 (position_in w.setting.sheet.chain w.cells (processor_state_at (state_of w) p) a) then Some (record { position = position_in w.setting.sheet.chain w.cells (processor_state_at (state_of w) p) a; row = row_or (start_row (projection_at w.setting p).fields) r }) else None)
-      (sym (same-row (projection_at w.setting p) w.setting.sheet.chain w.cells (processor_state_at (state_of w) p) a prefixes))
+      ∙ ap (λ (x : ProcessorState). folded_row w.setting p (covered_events whole (portions x.rows) (events w.cells)) x a) (sym (processor_state-place w p))
+      ∙ ap (λ n. row_if w.setting p (covered_events whole (portions (processor_state_at (state_of w) p).rows) (events w.cells)) (processor_state_at (state_of w) p) a n) (sym (same-position whole w.setting.sheet.chain w.cells (processor_state_at (state_of w) p) a))
+      ∙ ap (λ r. if nat_lt 0 (position_in whole w.setting.sheet.chain w.cells (processor_state_at (state_of w) p) a) then Some (record { position = position_in whole w.setting.sheet.chain w.cells (processor_state_at (state_of w) p) a; row = row_or (start_row (projection_at w.setting p).fields) r }) else None)
+      (sym (same-row whole (projection_at w.setting p) w.setting.sheet.chain w.cells (processor_state_at (state_of w) p) a prefixes))
 
   shown-listed : (names : List Name) → AreNames (processor_tables_at w p).table names → listed (processor_tables_at w p).table names ≡ rows_of (state_of w) p
   shown-listed names n =
@@ -162,5 +168,5 @@ shown-move w p rules table lines move h k r t added is =
     same : lines ≡ rows_report (state_of w) p
     same =
         added.lines
-        ∙ ap (map (line_of rules.fields)) (ap (λ es. listed es added.names) t ∙ shown-listed w p h (projection-within w.setting.processors p k) added.names (subst (λ es. AreNames es added.names) t added.are))
+        ∙ ap (map (line_of rules.fields)) (ap (λ es. listed es added.names) t ∙ shown-listed w p h k added.names (subst (λ es. AreNames es added.names) t added.are))
         ∙ ap (λ (x : Rules). map (line_of x.fields) (rows_of (state_of w) p)) r

@@ -8,15 +8,14 @@ use Rattle.ax_values.specs.Words.{words, same_name, name_cmp}
 use Rattle.ax_rules.specs.Expr.{Row}
 use Rattle.ax_rules.specs.Rules.{Rules}
 use Rattle.ax_projections.specs.Table.{Entry, look_up}
-use Rattle.ax_state.specs.Setting.{Setting, processor_number, projection_at, is_projection}
+use Rattle.ax_state.specs.Setting.{Setting, processor_number, processor_at, projection_at, is_projection}
 use Rattle.ax_state.specs.State.{State}
 use Rattle.ax_state.specs.Positions.{Shown, rows_of, rebuilt_rows}
-use Rattle.ax_state.specs.Answer.{Answer, answer, reported}
+use Rattle.ax_state.specs.Answer.{Answer, reported}
 use Rattle.ax_journal.specs.Entries.{ended}
 use Rattle.ax_rules.specs.declared.rules.Initial.{Initial}
 use Rattle.ax_projections.specs.declared.table.Positioned.{Positioned}
 use Rattle.ax_journal.specs.declared.order.Order.{Order}
-use Rattle.ax_journal.specs.declared.reply.Reply.{Reply}
 use Rattle.ax_sheet.specs.Declarations.{Processor}
 
 -- ---- lines
@@ -51,7 +50,11 @@ unless_saga false lines = lines
 abbrev pub rebuilt_lines : State → ℕ → Processor → List Line
 rebuilt_lines m p q = processor_line q ∷ map (row_line (projection_at m.setting p)) (rebuilt_rows (projection_at m.setting p) m.setting.sheet.chain m.cells)
 
--- the processors, the first of which has the number p: sagas have no rows
+-- of the processor p: a saga has no rows
+abbrev pub processor_lines : State → ℕ → List Line
+processor_lines m p = unless_saga (processor_at m.setting p).saga (rebuilt_lines m p (processor_at m.setting p))
+
+-- the processors, the first of which has the number p
 abbrev pub rebuild_from : State → ℕ → List Processor → List Line
 rebuild_from m p [] = []
 rebuild_from m p (q ∷ qs) = unless_saga q.saga (rebuilt_lines m p q) ++ rebuild_from m (suc p) qs
@@ -97,6 +100,7 @@ abbrev pub IsDeclared : Setting → Order → Type 0
 IsDeclared setting (Order.ShowRows processor) = IsTrue (is_projection setting (processor_number setting.processors processor))
 IsDeclared setting order = Unit {0}
 
-abbrev pub step : State → ℕ → Order → Answer
-step m actor (Order.ShowRows processor) = reported m (rows_report m (processor_number m.setting.processors processor))
-step m actor order = answer m Reply.Done
+-- of an order of this crate
+abbrev pub step : State → ℕ → (order : Order) → IsReport order → Answer
+step m actor (Order.ShowRows processor) kind = reported m (rows_report m (processor_number m.setting.processors processor))
+step m actor order kind = absurd kind

@@ -1,7 +1,6 @@
 ghost use Rattle.std.specs.Prelude.{◌≡◌, ◌<◌, ◌++◌, length, IfOk, OnOk, OnErr};
-ghost use Rattle.ax_state.specs.Setting.{processor_at};
 ghost use Rattle.ax_world.specs.WorldTables.{state_of};
-ghost use Rattle.ax_report.specs.Reports.{rebuilt_lines, rebuild_lines, rebuild_text, unless_saga};
+ghost use Rattle.ax_report.specs.Reports.{processor_lines, rebuild_lines, rebuild_text};
 
 use crate::line::processor_line;
 use crate::rows::add_rows;
@@ -40,7 +39,7 @@ fn add_rebuilt(
     lines: &mut Lines,
 ) -> Result<(), NoMemory>
     requires { processor < length world.now.tables.setting.processors }
-    ensures { OnOk result (lines.new ≡ lines.old ++ unless_saga (processor_at world.now.tables.setting processor).saga (rebuilt_lines (state_of world.now.tables) processor (processor_at world.now.tables.setting processor))) }
+    ensures { OnOk result (lines.new ≡ lines.old ++ processor_lines (state_of world.now.tables) processor) }
 {
     let declared = &world.processors().parts()[processor as usize];
     if declared.saga {

@@ -17,7 +17,7 @@ pub fn step(alloc: Global, world: &World, actor: u32, order: &Order) -> Result<M
     requires kind { IsReport order.now }
     requires processor { IsDeclared world.now.tables.setting order.now }
     requires actor { actor < length world.now.tables.setting.actors }
-    ensures { IfOk result (IsMove world.now.tables (step (state_of world.now.tables) actor order.now)) }
+    ensures { (kind : IsReport order.now) → IfOk result (IsMove world.now.tables (step (state_of world.now.tables) actor order.now kind)) }
 {
     let _ = actor;
     match order {
@@ -25,10 +25,7 @@ pub fn step(alloc: Global, world: &World, actor: u32, order: &Order) -> Result<M
             let processor = world.processor(processor);
             show_rows(alloc, world, processor)
         }
-        _ => {
-            world.facts();
-            Ok(Move::without_edits(alloc, Reply::Done))
-        }
+        _ => unreachable!(),
     }
 }
 

@@ -16,7 +16,7 @@ use Rattle.ax_state.specs.State.{State, ProcessorState, Desk, Batch, desk_at, pr
 use Rattle.ax_state.specs.Positions.{first_letter, drops_of}
 use Rattle.ax_state.specs.Portions.{Portion, portion_of, portions, covered_events}
 use Rattle.ax_state.specs.WellFormed.{IsWellFormed, AreReserved, HoldsCells, IsReservation, IsDeskOf, IsBatchIn, IsBatchAt, IsBatchRow, IsProcessorState, IsProcessorBy, IsFencedProcessor, IsOwnedRight, IsFolded, AreParts, AreTokens, IsTokenOver, TokenPrefix, HasRows, OwnsRow, OwnsAs, reserved_by, holds_cell, fence_count, has_no_gaps, has_no_replay}
-use Rattle.ax_state.proofs.Lists.{All-map, All-set, All-at, All-get, All-got, AllFrom-map, AllFrom-set, AllFrom-at, AllFrom-get, count-set, count-set_same, count-none, IfSome-map}
+use Rattle.ax_state.proofs.Lists.{All-map, All-set, All-at, All-get, All-got, AllFrom-map, AllFrom-set, AllFrom-at, AllFrom-get, count-set, count-set_same, count-none, one-most, IfSome-map}
 use Rattle.ax_state.proofs.RowPuts.{found-row, put-set, put-all, put-portions, put-parts, put-same, fence_count-set, fence_count-above, fenced-later}
 use Rattle.ax_state.proofs.Coverage.{prefix-put}
 use Rattle.ax_state.proofs.Growth.{IsGrowth, place-later, batch-later}
@@ -318,7 +318,3 @@ module _ (m : State) (p : ℕ) (s : Segment) (r n : TokenRow) (found : row_at s 
     where
       more : (f : ℕ) → count (λ x. x.fence == f) (put_row n rows) ≤ count (λ x. x.fence == f) rows + one (n.fence == f)
       more f = subst (λ xs. count (λ x. x.fence == f) xs ≤ count (λ x. x.fence == f) rows + one (n.fence == f)) (sym (put-set rows found-at.0 r n parts found-at.1 same)) (count-set (λ x. x.fence == f) rows found-at.0 n)
-
-      one-most : (b : Bool) → one b ≤ 1
-      one-most true = omega arith
-      one-most false = omega arith

@@ -120,6 +120,10 @@ count-put t cmp y (x ∷ xs) =
     elim (cmp y x) as (λ o. count t (match_ordering o (y ∷ x ∷ xs) (y ∷ xs) (x ∷ put_rising cmp y xs)) ≤ one (t x) + count t xs + one (t y))
     [ Less ↦ omega arith | Equal ↦ omega arith | Greater ↦ omega arith ]
 
+pub one-most : (b : Bool) → one b ≤ 1
+one-most true = omega arith
+one-most false = omega arith
+
 pub count-none : {A : Type 0} (t : A → Bool) (xs : List A) → AllByRecursion (λ x. t x ≡ false) xs → count t xs ≡ 0
 count-none t [] h = refl
 count-none t (x ∷ xs) h = let ih : count t xs ≡ 0 = count-none t xs h.1 in let e : one (t x) ≡ 0 = ap one h.0 in omega arith

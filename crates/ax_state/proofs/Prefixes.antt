@@ -1,7 +1,9 @@
 -- Where the covered events of each aggregate are a prefix of its stream, positions and rows can be read off the covered events alone.
 use Rattle.std.proofs.Common.{◌≡◌, ℕ, Bool, true, false, not, List, [], ◌∷◌, ◌++◌, map, length, filter, flat_map, take, drop, find, Option, Some, if◌then◌else◌, refl, sym, ap, ◌∙◌}
+use Rattle.std.proofs.Math.Seq.{take-length}
 use Rattle.std.proofs.lemmas.Grind.{flat_map-append}
 use Rattle.std.proofs.lemmas.List.{take-append-drop}
+use Rattle.std.proofs.lemmas.List.Elements.{filter-append}
 use Rattle.std.specs.List.{list_all}
 use Rattle.std.proofs.lemmas.Slice.Eq.{bytes_eq-Decides}
 use Rattle.ax_values.specs.Grammar.{Name}
@@ -82,14 +84,6 @@ filter-placed t i (x ∷ xs) = at (t i) (filter-placed t i xs)
     at true ih = ap (λ ys. placed i x ∷ ys) ih
     at false ih = ih
 
-filter-append : {A : Type 0} (t : A → Bool) (xs ys : List A) → filter t (xs ++ ys) ≡ filter t xs ++ filter t ys
-filter-append t [] ys = refl
-filter-append t (x ∷ xs) ys = at (t x) (filter-append t xs ys)
-  where
-    at : (b : Bool) → filter t (xs ++ ys) ≡ filter t xs ++ filter t ys → (if b then x ∷ filter t (xs ++ ys) else filter t (xs ++ ys)) ≡ (if b then x ∷ filter t xs else filter t xs) ++ filter t ys
-    at true ih = ap (λ zs. x ∷ zs) ih
-    at false ih = ih
-
 -- the items at indexes that pass are those of the events that pass
 pub filter-items : (chain : List Upcaster) (t : ℕ → Bool) (es : List Stored) → filter (λ x. t x.index) (flat_map (placed_items chain) es) ≡ flat_map (placed_items chain) (filter (λ e. t e.index) es)
 filter-items chain t [] = refl
@@ -102,7 +96,7 @@ filter-items chain t (e ∷ es) =
     at true ih = ap (λ xs. placed_items chain e ++ xs) ih
     at false ih = ih
 
-same-filter : {A : Type 0} (t u : A → Bool) (xs : List A) → ((x : A) → t x ≡ u x) → filter t xs ≡ filter u xs
+pub same-filter : {A : Type 0} (t u : A → Bool) (xs : List A) → ((x : A) → t x ≡ u x) → filter t xs ≡ filter u xs
 same-filter t u [] h = refl
 same-filter t u (x ∷ xs) h = ap (λ b. if b then x ∷ filter t xs else filter t xs) (h x) ∙ ap (λ ys. if u x then x ∷ ys else ys) (same-filter t u xs h)
 
@@ -122,10 +116,6 @@ items-prefix whole chain es ps a h =
       flat_map (placed_items chain) (drop n s),
       ap (flat_map (placed_items chain)) (sym (take-append-drop n s)) ∙ flat_map-append (placed_items chain) (take n s) (drop n s) ∙ ap (λ es. flat_map (placed_items chain) es ++ flat_map (placed_items chain) (drop n s)) (sym front),
     )
-
-take-length : {A : Type 0} (xs : List A) → take (length xs) xs ≡ xs
-take-length [] = refl
-take-length (x ∷ xs) = ap (λ zs. x ∷ zs) (take-length xs)
 
 -- ---- the law
 

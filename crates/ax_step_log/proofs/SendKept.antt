@@ -21,7 +21,7 @@ use Rattle.ax_state.specs.State.{State, Desk, Reservation, desk_at, actor_name, 
 use Rattle.ax_state.specs.Positions.{aggregate_state}
 use Rattle.ax_state.specs.Answer.{Answer, answer}
 use Rattle.ax_state.specs.WellFormed.{IsWellFormed, HoldsCells, IsReservation, reserved_by, holds_cell}
-use Rattle.ax_state.proofs.Lists.{AllFrom-set, count-set, count-none}
+use Rattle.ax_state.proofs.Lists.{AllFrom-set, count-set, count-none, one-most}
 use Rattle.ax_state.proofs.Desks.{kept-reservation}
 use Rattle.ax_state.proofs.Grow.{Grows, held-within, grows-append, ordered-grows, kept-grown}
 use Rattle.ax_step_log.specs.Logging.{send, sent_decided, no_command, sent_events, with_reservation, released, reserved_cells, reservation_of, as_records}
@@ -54,10 +54,6 @@ get-append [] ys i h = ap (slice_get ys) (let e : i ≡ i - 0 = omega arith in e
 get-append (x ∷ xs) ys zero h = absurd (omega arith)
 get-append (x ∷ xs) ys (suc i) h =
     let le : length xs ≤ i = omega arith in let e : i - length xs ≡ suc i - suc (length xs) = omega arith in get-append xs ys i le ∙ ap (slice_get ys) e
-
-one-le : (b : Bool) → one b ≤ 1
-one-le true = omega arith
-one-le false = omega arith
 
 reserved-append : (now n : ℕ) (a : Name) (s : ℕ) (w : Name) (cells : List Cell) → AllByRecursion (reserved_by now) cells → AllByRecursion (reserved_by now) (cells ++ replicate n (Cell.Reserved a s w now))
 reserved-append now zero a s w [] h = tt
@@ -197,7 +193,7 @@ kept-reserved m actor a es fit room h = kept-reservation (with_cells later m) ac
         at false e =
             let past : length m.cells ≤ i = ltb-false i (length m.cells) e in
             let none : count (λ d. holds_cell i d.reservation) m.desks ≡ 0 = count-none (λ d. holds_cell i d.reservation) m.desks (all-beyond m.cells m.setting.actors 0 m.desks i h.reserved.each past) in
-            let bit : one (holds_cell i (Some r)) ≤ 1 = one-le (holds_cell i (Some r)) in omega (arith, more)
+            let bit : one (holds_cell i (Some r)) ≤ 1 = one-most (holds_cell i (Some r)) in omega (arith, more)
 
 kept-events : (m : State) (actor : ℕ) (a : Name) (es : List Event) → EventsFit es → IsWellFormed m → IsWellFormed (sent_events m actor a es).state
 kept-events m actor a es fit h = at (nat_lt max_cells (length m.cells + length es)) refl

@@ -28,7 +28,7 @@ use Rattle.ax_state.specs.WellFormed.{IsWellFormed, IsProcessorState, IsTokenOve
 use Rattle.ax_state.proofs.Lists.{All-get, AllFrom-get}
 use Rattle.ax_state.proofs.RowPuts.{found-row}
 use Rattle.ax_state.proofs.Coverage.{IsChanged, changed, covered-here, prefix-same}
-use Rattle.ax_state.proofs.Prefixes.{covered-stream, same-row}
+use Rattle.ax_state.proofs.Prefixes.{same-filter, covered-stream, same-row}
 use Rattle.ax_state.proofs.Actors.{same-actor}
 use Rattle.ax_state.proofs.Frames.{seat-at, batch-at, batch-owned, place-there, place-at, place-put, kept-held-row}
 use Rattle.ax_state.proofs.Desks.{kept-emptied}
@@ -51,10 +51,6 @@ pub record IsAdded (whole : Option Name) (chain : List Upcaster) (es : List Stor
 no-stream : (f : ℕ → Bool) (es : List Stored) → ((i : ℕ) → f i ≡ false) → filter (λ e. f e.index) es ≡ []
 no-stream f [] h = refl
 no-stream f (e ∷ es) h = ap (λ c. if c then e ∷ filter (λ e. f e.index) es else filter (λ e. f e.index) es) (h e.index) ∙ no-stream f es h
-
-filter-tests : (f g : ℕ → Bool) → ((i : ℕ) → f i ≡ g i) → (es : List Stored) → filter (λ e. f e.index) es ≡ filter (λ e. g e.index) es
-filter-tests f g h [] = refl
-filter-tests f g h (e ∷ es) = ap (λ c. if c then e ∷ filter (λ e. f e.index) es else filter (λ e. f e.index) es) (h e.index) ∙ ap (λ ys. if g e.index then e ∷ ys else ys) (filter-tests f g h es)
 
 share-stream : (whole : Option Name) (chain : List Upcaster) (es : List Stored) (b : Batch) (a : Name) → share_of a (batch_items whole chain b es)
     ≡ flat_map (placed_items chain) (filter (λ e. matches b.segment (hash_in whole a) && (covers b.new b.segment.mask (hash_in whole a) e.index && not (covers b.old b.segment.mask (hash_in whole a) e.index))) (stream_in a es))
@@ -89,7 +85,7 @@ items-added whole chain es rows k r n b parts prefixes at seg old same new more 
     put = changed rows k r n parts at same
 
     tests-are : (a : Name) (f g : ℕ → Bool) → ((i : ℕ) → f i ≡ g i) → filter (λ e. f e.index) (stream_in a es) ≡ filter (λ e. g e.index) (stream_in a es)
-    tests-are a f g h = filter-tests f g h (stream_in a es)
+    tests-are a f g h = same-filter (λ (e : Stored). f e.index) (λ e. g e.index) (stream_in a es) (λ e. h e.index)
 
     later-here : (a : Name) → matches b.segment (hash_in whole a) ≡ true → (i : ℕ) → covered_by (portions (put_row n rows)) (hash_in whole a) i ≡ covers b.new b.segment.mask (hash_in whole a) i
     later-here a m i =

@@ -5,7 +5,8 @@ use Rattle.std.specs.List.{AllByRecursion, list_all}
 use Rattle.std.proofs.lemmas.List.{take_all, append-nil}
 use Rattle.std.proofs.lemmas.Slice.Eq.{bytes_eq-Decides}
 use Rattle.ax_values.specs.Grammar.{Name}
-use Rattle.ax_laws.proofs.Tests.{both}
+use Rattle.ax_laws.proofs.Tests.{both, and-false, and-swap}
+use Rattle.ax_laws.proofs.Lists.{none-pass}
 use Rattle.ax_log.specs.Log.{Stored, is_of, stream_in}
 use Rattle.ax_rules.specs.Expr.{Row}
 use Rattle.ax_rules.specs.Rules.{Rules, and_then, applied, fold_from, fold_items}
@@ -56,25 +57,11 @@ module _ (a : Name) (t : Name → ℕ → Bool) where
 
 -- ---- more is covered
 
-none-pass : (old : ℕ → Bool) (es : List Stored) → list_all not (map (λ e. old e.index) es) ≡ true → filter (λ e. old e.index) es ≡ []
-none-pass old [] h = refl
-none-pass old (e ∷ es) h =
-    let k = both (not (old e.index)) (list_all not (map (λ e. old e.index) es)) h in
-    ap (λ b. if b then e ∷ filter (λ e. old e.index) es else filter (λ e. old e.index) es) (fails (old e.index) k.0) ∙ none-pass old es k.1
-  where
-    fails : (c : Bool) → not c ≡ true → c ≡ false
-    fails true h = absurd (cc)
-    fails false h = refl
-
 fresh-same : (old new : ℕ → Bool) (es : List Stored) → list_all not (map (λ e. old e.index) es) ≡ true → AllByRecursion (λ e. new e.index ≡ (new e.index && not (old e.index))) es
 fresh-same old new [] h = tt
 fresh-same old new (e ∷ es) h =
     let k = both (not (old e.index)) (list_all not (map (λ e. old e.index) es)) h in
-    (sym (ap (λ c. new e.index && c) k.0 ∙ and-true (new e.index)), fresh-same old new es k.1)
-  where
-    and-true : (c : Bool) → (c && true) ≡ c
-    and-true true = refl
-    and-true false = refl
+    (sym (ap (λ c. new e.index && c) k.0 ∙ and-swap (new e.index) true), fresh-same old new es k.1)
 
 split-by : (old new : ℕ → Bool) (e : Stored) (es : List Stored) (b : Bool) → old e.index ≡ b → ((i : ℕ) → old i ≡ true → new i ≡ true) → is_prefix_test (b ∷ map (λ e. old e.index) es) ≡ true
     → (is_prefix_test (map (λ e. old e.index) es) ≡ true → filter (λ e. new e.index) es ≡ filter (λ e. old e.index) es ++ filter (λ e. new e.index && not (old e.index)) es)
@@ -84,14 +71,10 @@ split-by old new e es true k more h again =
     ∙ ap (λ ys. e ∷ ys) (again h)
     ∙ sym (ap (λ b. (if b then e ∷ filter (λ e. old e.index) es else filter (λ e. old e.index) es) ++ filter (λ e. new e.index && not (old e.index)) (e ∷ es)) k
     ∙ ap (λ b. (e ∷ filter (λ e. old e.index) es) ++ (if b then e ∷ filter (λ e. new e.index && not (old e.index)) es else filter (λ e. new e.index && not (old e.index)) es)) (ap (λ c. new e.index && not c) k ∙ and-false (new e.index)))
-  where
-    and-false : (c : Bool) → (c && false) ≡ false
-    and-false true = refl
-    and-false false = refl
 split-by old new e es false k more h again =
     let none : list_all not (map (λ e. old e.index) (e ∷ es)) ≡ true = ap (λ b. not b && list_all not (map (λ e. old e.index) es)) k ∙ h in
     filter-same (λ e. new e.index) (λ e. new e.index && not (old e.index)) (e ∷ es) (fresh-same old new (e ∷ es) none)
-    ∙ ap (λ ys. ys ++ filter (λ e. new e.index && not (old e.index)) (e ∷ es)) (sym (none-pass old (e ∷ es) none))
+    ∙ ap (λ ys. ys ++ filter (λ e. new e.index && not (old e.index)) (e ∷ es)) (sym (none-pass (λ (e : Stored). old e.index) (e ∷ es) none))
 
 -- behind a prefix stands what is new
 pub covered-split : (old new : ℕ → Bool) (es : List Stored) → ((i : ℕ) → old i ≡ true → new i ≡ true) → is_prefix_test (map (λ e. old e.index) es) ≡ true
