@@ -1,6 +1,11 @@
 pub mod Known
+pub mod Names
+pub mod Schedules
 pub mod Stays
 pub mod Left
 pub mod Runs
+pub mod Performed
+pub mod Along
+pub mod Reported
 pub mod AtHead
 pub mod RunsWellFormed

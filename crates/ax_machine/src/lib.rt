@@ -1,4 +1,4 @@
-//! The machine: a world, and the journal of what was performed.
+//! The machine: a plan, the world that it has led to, the journal of what was performed, and the orders that are left.
 #![tactic(auto)]
 
 mod machine;
@@ -7,4 +7,3 @@ mod turns;
 
 pub use machine::{Machine, run};
 pub use steps::step;
-pub use turns::Turn;

@@ -1,20 +1,19 @@
 ghost use Rattle.std.specs.Prelude.{◌^◌, ◌<◌, length, IfOk};
-ghost use Rattle.ax_journal.specs.declared.reply.Reply.TheVariants.{Done};
-ghost use Rattle.ax_state.specs.Answer.{answer};
 ghost use Rattle.ax_world.specs.WorldTables.{state_of};
 ghost use Rattle.ax_world.specs.Moves.{IsMove};
-ghost use Rattle.ax_machine.specs.Run.{IsKnown, step};
+ghost use Rattle.ax_machine.specs.Run.{IsKnown, IsPerformed, step};
 
-use ax_journal::{Order, Reply};
+use ax_journal::Order;
 use ax_values::NoMemory;
 use ax_world::{Move, World};
 use std::alloc::Global;
 
-/// What an order of an actor makes of the world, and what it answers. An order that is not built yet changes nothing.
-/// The world itself stays: the edits of the answer are for `World::prepare` and `World::install`. Want of memory is the
+/// The move to the state that an order of an actor leads to, with its reply and its report.
+/// The world itself stays: the edits of the move are for `World::prepare` and `World::install`. Want of memory is the
 /// only error.
 pub fn step(alloc: Global, world: &World, actor: u32, order: &Order) -> Result<Move, NoMemory>
     requires known { IsKnown world.now.tables.setting order.now }
+    requires performed { IsPerformed order.now }
     requires actor { actor < length world.now.tables.setting.actors }
     requires fence { world.now.tables.fence < 2 ^ 63 }
     ensures { IfOk result (IsMove world.now.tables (step (state_of world.now.tables) actor order.now)) }
@@ -27,14 +26,6 @@ pub fn step(alloc: Global, world: &World, actor: u32, order: &Order) -> Result<M
         Order::Fetch { .. } => ax_step_work::step(alloc, world, actor, order),
         Order::Commit => ax_step_work::step(alloc, world, actor, order),
         Order::ShowRows { .. } => ax_report::step(alloc, world, actor, order),
-        _ => Ok(nothing(alloc, world)),
+        _ => unreachable!(),
     }
-}
-
-/// Changes nothing.
-fn nothing(alloc: Global, world: &World) -> Move
-    ensures { IsMove world.now.tables (answer (state_of world.now.tables) Done) result }
-{
-    world.facts();
-    Move::without_edits(alloc, Reply::Done)
 }

@@ -1,9 +1,7 @@
-use Rattle.std.proofs.Common.{take, drop}
-use Rattle.ax_world.specs.WorldTables.{state_of}
-use Rattle.ax_machine.proofs.Runs.{IsAt}
+use Rattle.std.proofs.Common.{◌≡◌}
+use Rattle.ax_machine.proofs.Along.{IsAlong}
 use Rattle.ax_machine.proofs.machine.run.Given as goal
 
--- the turns before are performed
+-- the first places of the plan's schedule are performed
 abbrev pub invariant-loop-actor : goal.invariant-loop-actor
-invariant-loop-actor l =
-    IsAt l.fn.plan (take l.actor-index l.fn.plan.schedule) (drop l.actor-index l.fn.plan.schedule) (state_of l.machine.world.tables) l.machine.journal.items l.queues.items
+invariant-loop-actor l = (l.machine.plan ≡ l.fn.plan) × IsAlong l.actor-index l.machine
