@@ -8,8 +8,8 @@ use Rattle.ax_rules.specs.Expr.{Row}
 use Rattle.ax_rules.specs.Rules.{Rules, applied, row_or}
 use Rattle.ax_rules.specs.declared.cause.Cause.{Cause}
 use Rattle.ax_rules.specs.declared.why.Why.{Why}
-use Rattle.ax_basis.specs.Basis.{Share, is_of_member, member_names, member_rows, row_fits}
-use Rattle.ax_basis.specs.Outcomes.{name_place, row_among, tried, failed, all_behind, outcomes_after, outcomes_from, outcomes_left, outcomes_unless, outcomes, rows_after, share_result}
+use Rattle.ax_basis.specs.Basis.{is_of_member, row_fits}
+use Rattle.ax_basis.specs.Outcomes.{name_place, row_among, tried, failed, outcomes_after, outcomes_from, outcomes_of, rows_after}
 use Rattle.ax_basis.specs.declared.item.BasisItem.{BasisItem}
 use Rattle.ax_basis.specs.declared.item.Member.{Member}
 use Rattle.ax_basis.specs.declared.outcome.Outcome.{Outcome}
@@ -17,8 +17,8 @@ use Rattle.ax_basis.specs.declared.outcome.Outcome.{Outcome}
 module _ (rules : Rules) (keep : Bool) (names : List Name) where
   -- the outcomes so far and those of the items that are left are all; the rows after the items that are left are those after all
   pub record IsGoing (all : List Outcome) (last : List Row) (made : List Outcome) (behind : Bool) (xs : List BasisItem) (rows : List Row) : Type 0 where
-    pub said : made ++ outcomes_left rules keep names behind xs rows ≡ all
-    pub stand : rows_after rules names xs (outcomes_left rules keep names behind xs rows) rows ≡ last
+    pub said : made ++ outcomes_of rules keep names behind xs rows ≡ all
+    pub stand : rows_after rules names xs (outcomes_of rules keep names behind xs rows) rows ≡ last
 
   was-applied : (marked : Bool) (r : Result Row Cause) (old row : Row) → Ok row ≡ tried marked r → row_or old r ≡ row
   was-applied true r old row e = cc
@@ -26,7 +26,7 @@ module _ (rules : Rules) (keep : Bool) (names : List Name) where
   was-applied false (Err c) old row e = cc
 
   failed-next : (keep : Bool) (x : BasisItem) (xs : List BasisItem) (rows : List Row) (why : Why)
-      → outcomes_after keep names x.item.name.aggregate rows xs (λ next. outcomes_from rules keep names xs next) (Err why) ≡ failed keep why ∷ outcomes_left rules keep names keep xs rows
+      → outcomes_after keep names x.item.name.aggregate rows xs (λ next. outcomes_from rules keep names xs next) (Err why) ≡ failed keep why ∷ outcomes_of rules keep names keep xs rows
   failed-next true x xs rows why = refl
   failed-next false x xs rows why = refl
 
@@ -58,11 +58,11 @@ module _ (rules : Rules) (keep : Bool) (names : List Name) where
 
     pub next-failed : (why : Why) → Err why ≡ tried x.marked (applied rules (row_among names a rows) x.item) → IsGoing all last made false (x ∷ xs) rows → IsGoing all last (made ++ failed keep why ∷ []) keep xs rows
     next-failed why e g =
-        let made-is : outcomes_from rules keep names (x ∷ xs) rows ≡ failed keep why ∷ outcomes_left rules keep names keep xs rows =
+        let made-is : outcomes_from rules keep names (x ∷ xs) rows ≡ failed keep why ∷ outcomes_of rules keep names keep xs rows =
         ap (outcomes_after keep names a rows xs (λ next. outcomes_from rules keep names xs next)) (sym e) ∙ failed-next keep x xs rows why in
         record {
-          said = one-more (failed keep why) (outcomes_left rules keep names keep xs rows) made-is g.said;
-          stand = sym (failed-rows keep x xs (outcomes_left rules keep names keep xs rows) rows why) ∙ ap (λ os. rows_after rules names (x ∷ xs) os rows) (sym made-is) ∙ g.stand;
+          said = one-more (failed keep why) (outcomes_of rules keep names keep xs rows) made-is g.said;
+          stand = sym (failed-rows keep x xs (outcomes_of rules keep names keep xs rows) rows why) ∙ ap (λ os. rows_after rules names (x ∷ xs) os rows) (sym made-is) ∙ g.stand;
         }
 
 -- the item that is read and those after it
@@ -84,23 +84,3 @@ own-rest ms xs i x lt read h =
 pub ok-fits : (rules : Rules) (r : Result Row Why) (row : Row) → IfOk r (λ row. row_fits rules row ≡ true) → r ≡ Ok row → row_fits rules row ≡ true
 ok-fits rules (Ok next) row h e = let same : next ≡ row = cc in subst (λ r. row_fits rules r ≡ true) same h
 ok-fits rules (Err why) row h e = cc
-
--- ---- a whole share
-
-behind-rows : (rules : Rules) (names : List Name) (xs : List BasisItem) (rows : List Row) → rows_after rules names xs (all_behind xs) rows ≡ rows
-behind-rows rules names [] rows = refl
-behind-rows rules names (x ∷ xs) rows = behind-rows rules names xs rows
-
-module _ (rules : Rules) (keep : Bool) (s : Share) (made : List Outcome) (rows : List Row) where
-  result-is : outcomes rules keep s ≡ made → rows_after rules (member_names s.members) s.items made (member_rows s.members) ≡ rows → record { outcomes = made; rows = rows } ≡ share_result rules keep s
-  result-is o r =
-      sym (ap (λ os. record { outcomes = os; rows = rows_after rules (member_names s.members) s.items os (member_rows s.members) }) o ∙ ap (λ rows. record { outcomes = made; rows = rows }) r)
-
-  pub parked-result : s.parked ≡ true → made ≡ all_behind s.items → rows ≡ member_rows s.members → record { outcomes = made; rows = rows } ≡ share_result rules keep s
-  parked-result p m r =
-      result-is (ap (outcomes_unless rules keep s) p ∙ sym m)
-      (ap (λ os. rows_after rules (member_names s.members) s.items os (member_rows s.members)) m ∙ behind-rows rules (member_names s.members) s.items (member_rows s.members) ∙ sym r)
-
-  pub tried-result : s.parked ≡ false → made ≡ outcomes_from rules keep (member_names s.members) s.items (member_rows s.members) → rows ≡ rows_after rules (member_names s.members) s.items made (member_rows s.members)
-      → record { outcomes = made; rows = rows } ≡ share_result rules keep s
-  tried-result p m r = result-is (ap (outcomes_unless rules keep s) p ∙ sym m) (sym r)

@@ -66,13 +66,14 @@ rows_after rules names (x ∷ xs) (Outcome.Dropped why ∷ os) rows = rows_after
 abbrev pub all_behind : List BasisItem → List Outcome
 all_behind xs = map (λ x. Outcome.Parked Why.Behind) xs
 
-abbrev pub outcomes_unless : Rules → Bool → Share → Bool → List Outcome
-outcomes_unless rules keep s true = all_behind s.items
-outcomes_unless rules keep s false = outcomes_from rules keep (member_names s.members) s.items (member_rows s.members)
+-- the outcomes of items that stand behind a parked one, or else are tried
+abbrev pub outcomes_of : Rules → Bool → List Name → Bool → List BasisItem → List Row → List Outcome
+outcomes_of rules keep names true items rows = all_behind items
+outcomes_of rules keep names false items rows = outcomes_from rules keep names items rows
 
 -- the outcomes of a share's items, in order, from its members' rows; where the share is parked, each is parked behind it
 abbrev pub outcomes : Rules → Bool → Share → List Outcome
-outcomes rules keep s = outcomes_unless rules keep s s.parked
+outcomes rules keep s = outcomes_of rules keep (member_names s.members) s.parked s.items (member_rows s.members)
 
 -- what is made of a share: the outcomes, and its members' rows after the applied items
 abbrev pub share_result : Rules → Bool → Share → ShareResult
@@ -81,10 +82,3 @@ share_result rules keep s = record { outcomes = outcomes rules keep s; rows = ro
 -- what is made of each share of a basis
 abbrev pub results_of : Rules → Basis → List ShareResult
 results_of rules b = map (share_result rules b.keep) b.shares
-
--- ---- what is left, while a share is handled
-
--- the outcomes of items behind a parked one, or of items that are still tried
-abbrev pub outcomes_left : Rules → Bool → List Name → Bool → List BasisItem → List Row → List Outcome
-outcomes_left rules keep names true items rows = all_behind items
-outcomes_left rules keep names false items rows = outcomes_from rules keep names items rows

@@ -3,7 +3,7 @@ ghost use Rattle.std.specs.List.{list_all};
 ghost use Rattle.ax_values.specs.Words.{rises};
 ghost use Rattle.ax_rules.specs.Rules.{applied};
 ghost use Rattle.ax_basis.specs.Basis.{is_member, is_of_member, member_below, member_names, member_rows, members_fit, row_fits, shares_fit};
-ghost use Rattle.ax_basis.specs.Outcomes.{all_behind, failed, name_place, outcomes_from, results_of, row_in_place, rows_after, share_result, tried};
+ghost use Rattle.ax_basis.specs.Outcomes.{failed, name_place, outcomes_of, results_of, row_in_place, rows_after, share_result, tried};
 
 use crate::{Basis, BasisItem, Member, Outcome, Outcomes, Results, RowList, Share, ShareResult};
 use ax_rules::{Applied, Row, Rules, Why};
@@ -35,11 +35,7 @@ fn share_result(
     let members = share.members.parts();
     let items = share.items.parts();
     let mut rows = member_rows(alloc, members)?;
-    let outcomes = if share.parked {
-        all_behind(alloc, items)?
-    } else {
-        outcomes(alloc, rules, keep, members, items, &mut rows)?
-    };
+    let outcomes = outcomes(alloc, rules, keep, share.parked, members, items, &mut rows)?;
     Ok(ShareResult {
         outcomes: Outcomes::of(outcomes),
         rows: RowList::of(rows),
@@ -57,22 +53,13 @@ fn member_rows(alloc: Global, members: &[Member]) -> Result<Vec<Row>, NoMemory>
     Ok(rows)
 }
 
-/// Each item parked behind another.
-fn all_behind(alloc: Global, items: &[BasisItem]) -> Result<Vec<Outcome>, NoMemory>
-    ensures { IfOk result (λ outcomes. outcomes.items ≡ all_behind items.now) }
-{
-    let mut outcomes = Vec::with_capacity(alloc, items.len())?;
-    for _ in items {
-        outcomes.push(Outcome::Parked(Why::Behind))?;
-    }
-    Ok(outcomes)
-}
-
-/// The outcomes of the items of a share that is not parked. The members' rows become those after the applied items.
+/// The outcomes of the items of a share, which stand behind letters where it is parked. The members' rows become those after
+/// the applied items.
 fn outcomes(
     alloc: Global,
     rules: &Rules,
     keep: bool,
+    parked: bool,
     members: &[Member],
     items: &[BasisItem],
     rows: &mut Vec<Row>,
@@ -81,11 +68,11 @@ fn outcomes(
     requires own { IsTrue (list_all (is_of_member members.now) items.now) }
     requires long { length rows.old.items ≡ length members.now }
     requires fit { IsTrue (list_all (row_fits rules.now) rows.old.items) }
-    ensures outcomes { IfOk result (λ os. os.items ≡ outcomes_from rules.now keep (member_names members.now) items.now rows.old.items) }
+    ensures outcomes { IfOk result (λ os. os.items ≡ outcomes_of rules.now keep (member_names members.now) parked items.now rows.old.items) }
     ensures rows { IfOk result (λ os. rows.new.items ≡ rows_after rules.now (member_names members.now) items.now os.items rows.old.items) }
 {
     let mut outcomes = Vec::with_capacity(alloc, items.len())?;
-    let mut behind = false;
+    let mut behind = parked;
     for item in items {
         if behind {
             outcomes.push(Outcome::Parked(Why::Behind))?;

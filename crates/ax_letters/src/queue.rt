@@ -147,7 +147,8 @@ impl Queue {
     }
 
     /// Takes the first letter of the item out. With the last letter of a sequence its take ends.
-    /// NoLetter comes exactly where the item has none.
+    /// NoLetter comes exactly where the item has none. It takes no memory; the letters after it, at most 1,023, move one place
+    /// down, so that `letters_of` stays one slice.
     pub fn evict(&mut self, item: &ItemName) -> Result<Letter, QueueFault>
         ensures value { result ≡ ok_or (letter_of self.old.whole item.now self.old.sequences) QueueFault.NoLetter }
         ensures whole { self.new.whole ≡ self.old.whole }

@@ -4,7 +4,7 @@ use Rattle.std.proofs.lemmas.List.{length-set}
 use Rattle.ax_rules.specs.Rules.{applied}
 use Rattle.ax_basis.specs.declared.item.BasisItem.{BasisItem}
 use Rattle.ax_basis.specs.Basis.{row_fits, member_names}
-use Rattle.ax_basis.specs.Outcomes.{name_place, row_among, row_in_place, tried, failed, outcomes_from, rows_after}
+use Rattle.ax_basis.specs.Outcomes.{name_place, row_among, row_in_place, tried, failed, outcomes_of, rows_after}
 use Rattle.ax_basis.specs.declared.outcome.Outcome.{Outcome}
 use Rattle.ax_basis.proofs.OneItem.{IsGoing, going-here, own-rest, ok-fits, next-applied, next-failed}
 use Rattle.ax_basis.proofs.Fitting.{fits-at, fits-set}
@@ -25,7 +25,7 @@ loop-item-preserved c =
     let xs = c.args.items.now in
     let i = c.loop-item.item-index in
     let x = c.item-item.result in
-    let all = outcomes_from rs c.args.keep names xs c.args.rows.now.items in
+    let all = outcomes_of rs c.args.keep names c.args.parked xs c.args.rows.now.items in
     let last = rows_after rs names xs all c.args.rows.now.items in
     let made = c.loop-item.outcomes.items in
     let rows = c.loop-item.rows.items in
