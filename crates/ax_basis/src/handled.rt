@@ -72,8 +72,8 @@ impl Handled {
 }
 
 /// Handles a batch by rules, of which it keeps a copy. Each item is tried on the row of its aggregate. Where its sequence was
-/// parked, each item is parked behind it. Else an item fails where it is marked or the rules do not apply to it: under keep it
-/// is parked, and each later one of its sequence behind it; else it is dropped, and the row stays.
+/// parked, each item is parked, too. Else an item fails where it is marked or the rules do not apply to it: under keep it
+/// is parked, and so is each later one of its sequence; else it is dropped, and the row stays.
 pub fn handle(alloc: Global, basis: Basis, rules: &Rules) -> Result<Handled, NoMemory>
     requires { IsTrue (shares_fit rules.now basis.shares) }
     ensures basis { IfOk result (λ handled. handled.basis ≡ basis) }

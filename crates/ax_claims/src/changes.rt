@@ -1,10 +1,9 @@
 ghost use Rattle.std.specs.Prelude.{◌≡◌, ◌+◌, ◌<◌, ◌≤◌, ◌^◌, ◌==◌, true, false, insert, remove, length, position, slice_set, Some, None, IfOk, IfSome, IfNone, OnErr, OnOk, nat_lt, if◌then◌else◌};
 ghost use Rattle.ax_values.specs.Words.{place_where};
 ghost use Rattle.ax_segments.specs.Segments.{max_mask, partner, merged};
-ghost use Rattle.ax_tokens.specs.Tokens.{merged as halves_of, collapsed};
 ghost use Rattle.ax_tokens.specs.Nodes.{token_of};
 ghost use Rattle.ax_claims.specs.Rows.{AreRows, row_at, place_at};
-ghost use Rattle.ax_claims.specs.Changes.{free_row, lower_row, upper_row, reset_rows, is_claimed, partner_row};
+ghost use Rattle.ax_claims.specs.Changes.{free_row, lower_row, upper_row, merged_token, reset_rows, is_claimed, partner_row};
 
 use crate::TokenRow;
 use crate::rows::place_of;
@@ -111,7 +110,7 @@ pub(crate) fn merged_token(
     row: &TokenRow,
     other: &TokenRow,
 ) -> Result<Token, NoMemory>
-    ensures { IfOk result (λ token. token_of token ≡ collapsed (if nat_lt row.now.segment.id other.now.segment.id then halves_of row.now.token other.now.token else halves_of other.now.token row.now.token)) }
+    ensures { IfOk result (λ token. token_of token ≡ merged_token row.now other.now) }
 {
     let (lower, upper) = if row.segment.id < other.segment.id {
         (row, other)

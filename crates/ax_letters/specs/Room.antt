@@ -6,8 +6,9 @@ use Rattle.std.specs.declared.cmp.Ordering.TheVariants.{Less, Greater}
 use Rattle.std.specs.Ordering.{is_lt}
 use Rattle.ax_values.specs.Grammar.{Name, ItemName}
 use Rattle.ax_values.specs.Words.{same_name, name_cmp, rises, sequence_in, place_where}
-use Rattle.ax_letters.specs.Letters.{Sequence, Queue, is_filled, is_letter_of, max_sequences, sequence_of}
+use Rattle.ax_letters.specs.Letters.{Sequence, Queue, is_filled, is_letter_of, touched_letter, max_sequences, sequence_of}
 use Rattle.ax_letters.specs.declared.letter.Letter.{Letter}
+use Rattle.ax_rules.specs.declared.why.Why.{Why}
 
 -- so many letters more of a sequence take no memory
 pub record Spare : Type 0 where
@@ -116,6 +117,11 @@ set_or_remove ks i k (l ∷ ls) = slice_set ks i k
 -- the sequences without a letter, and without its sequence where it was the last
 abbrev pub taken_from : List Kept → ℕ → ℕ → Kept → List Kept
 taken_from ks i at k = set_or_remove ks i (kept_without at k) (remove k.sequence.letters at)
+
+-- the letter at the place has a new cause and moment
+abbrev pub IsTouched : ℕ → Why → ℕ → Kept → Kept → Type 0
+IsTouched place why now old new =
+    (l : Letter) → slice_get old.sequence.letters place ≡ Some l → new ≡ record old { sequence = record old.sequence { letters = slice_set old.sequence.letters place (touched_letter l why now) } }
 
 -- ---- where a sequence stands
 

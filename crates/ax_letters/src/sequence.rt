@@ -1,8 +1,7 @@
-ghost use Rattle.std.specs.Prelude.{◌≡◌, ◌+◌, ◌-◌, ◌<◌, ◌≤◌, ◌++◌, [], ◌∷◌, length, slice_index_or, remove, slice_get, slice_set, Some, None, IsOk, IfOk, OnOk, OnErr};
+ghost use Rattle.std.specs.Prelude.{◌≡◌, ◌+◌, ◌-◌, ◌<◌, ◌≤◌, ◌++◌, [], ◌∷◌, length, slice_index_or, remove, slice_get, Some, None, IsOk, IfOk, OnOk, OnErr};
 ghost use Rattle.std.specs.Option.{option_copied};
-ghost use Rattle.ax_letters.specs.Letters.{is_free_at, first_touched, touched_letter, with_letter};
-ghost use Rattle.ax_letters.specs.Room.{blank};
-ghost use Rattle.ax_letters.specs.declared.letter.Letter.{Letter};
+ghost use Rattle.ax_letters.specs.Letters.{is_free_at, first_touched, with_letter};
+ghost use Rattle.ax_letters.specs.Room.{blank, IsTouched};
 
 use crate::{Letter, Taken};
 use ax_rules::Why;
@@ -127,7 +126,7 @@ impl Sequence {
     /// Gives the letter at a place a new cause and moment.
     pub(crate) fn touch(&mut self, place: usize, why: Why, now: u64)
         requires { place < length self.old.sequence.letters }
-        ensures { (l : Letter) → slice_get self.old.sequence.letters place ≡ Some l → self.new ≡ record self.old { sequence = record self.old.sequence { letters = slice_set self.old.sequence.letters place (touched_letter l why now) } } }
+        ensures { IsTouched place why now self.old self.new }
     {
         let letter = &mut self.letters[place];
         letter.touched = now;

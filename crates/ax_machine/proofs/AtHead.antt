@@ -1,5 +1,5 @@
 -- In a well-formed state each row is the fold of a prefix, and at the head the rows are those of the log alone.
-use Rattle.std.proofs.Common.{◌≡◌, ℕ, suc, ◌+◌, ◌<◌, ◌≤◌, ◌==◌, ◌&&◌, Bool, true, false, not, IsTrue, List, [], ◌∷◌, map, length, filter, flat_map, find, take, Some, Result, Ok, Err, if◌then◌else◌, refl, sym, ap, ◌∙◌, subst, arith, nat_lt}
+use Rattle.std.proofs.Common.{◌≡◌, ℕ, suc, ◌+◌, ◌<◌, ◌≤◌, ◌==◌, ◌&&◌, Bool, true, false, not, IsTrue, List, [], ◌∷◌, map, length, filter, flat_map, find, take, Option, Some, Result, Ok, Err, if◌then◌else◌, refl, sym, ap, ◌∙◌, subst, arith, nat_lt}
 use Rattle.std.specs.Prelude.{IsOk}
 use Rattle.std.specs.List.{AllByRecursion, list_all}
 use Rattle.std.proofs.Math.Seq.{take-length}
@@ -9,20 +9,22 @@ use Rattle.ax_laws.proofs.Tests.{both}
 use Rattle.ax_log.specs.Log.{Stored, events_from, events, stream_in, is_of, aggregates, is_reserved}
 use Rattle.ax_rules.specs.Expr.{Row}
 use Rattle.ax_rules.specs.Rules.{Rules, applied, fold_from, fold_items, lenient_from, lenient, start_row, row_or, and_then}
-use Rattle.ax_segments.specs.Segments.{hash_of, matches, is_upper, half_mask}
+use Rattle.ax_segments.specs.Segments.{matches, is_upper, half_mask}
+use Rattle.ax_segments.specs.Sequences.{hash_in}
+use Rattle.ax_segments.proofs.HashLaws.{hash_in-small}
 use Rattle.ax_tokens.specs.Plain.{Plain, has, contains}
 use Rattle.ax_tokens.specs.Tokens.{Token, covers, covers_here, half, plain, merged, replay}
 use Rattle.ax_projections.specs.Items.{Placed, placed_items, plain_items}
 use Rattle.ax_claims.specs.Rows.{TokenRow}
-use Rattle.ax_state.specs.Setting.{is_projection, projection_at}
+use Rattle.ax_state.specs.Setting.{is_projection, projection_at, whole_at}
 use Rattle.ax_state.specs.State.{State, ProcessorState, processor_state_at, empty_processor}
-use Rattle.ax_state.specs.Positions.{items_at, covered_in, covered_items_in, row_covers, undropped, position_of, row_of, shown_at, has_items, rebuilt_at, is_empty, covers_all, is_at_head}
+use Rattle.ax_state.specs.Positions.{items_at, covered_in, covered_items_in, row_covers, undropped, position_of, row_of, shown_at, has_items, rebuilt_at, is_empty, has_all, covers_all, is_at_head}
 use Rattle.ax_state.specs.WellFormed.{IsProcessorState, IsWellFormed}
 use Rattle.ax_state.proofs.Lists.{AllFrom-get}
 use Rattle.ax_state.proofs.Prefixes.{same-row, filter-items}
 use Rattle.ax_world.proofs.ProcessorStates.{get-at}
 use Rattle.ax_world.proofs.Projections.{projection-within}
-use Rattle.ax_step_work.proofs.Covering.{hash-small, rows-of}
+use Rattle.ax_state.proofs.RowPuts.{rows-of}
 use Rattle.ax_machine.specs.Promises.{IsFoldOfPrefix, AreRight}
 use Rattle.ax_values.specs.declared.cell.Cell.{Cell}
 use Rattle.ax_values.specs.declared.item.Item.{Item}
@@ -63,7 +65,7 @@ lenient-ok rules (x ∷ xs) r s h = at (applied rules r x) h (λ next k. lenient
 -- ---- what is at the head covers all
 
 module _ (n i : ℕ) (lt : i < n) where
-  plain-head : (p : Plain) → ((p.next == n) && is_empty p.gaps) ≡ true → has p i ≡ true
+  plain-head : (p : Plain) → has_all n p ≡ true → has p i ≡ true
   plain-head p h = at p.gaps refl (both (p.next == n) (is_empty p.gaps) h)
     where
       at : (gaps : List ℕ) → p.gaps ≡ gaps → ((p.next == n) ≡ true) × (is_empty p.gaps ≡ true) → has p i ≡ true
@@ -81,7 +83,7 @@ module _ (n i : ℕ) (lt : i < n) where
       at : (b : Bool) → covers l (half_mask mask) h i ≡ true → covers u (half_mask mask) h i ≡ true → covers_here (if b then half u (half_mask mask) h else half l (half_mask mask) h) i ≡ true
       at true lower upper = upper
       at false lower upper = lower
-  token-head (replay r c) mask h k = absurd (cc)
+  token-head (replay r c) mask h k = plain-head c (both (has_all n r) (has_all n c) k).1
 
   rows-head : (rows : List TokenRow) (h : ℕ) → list_all (λ r. covers_all n r.token) rows ≡ true → length (filter (λ r. matches r.segment h) rows) ≡ 1 → covered_in rows h i ≡ true
   rows-head [] h k one = absurd (omega arith)
@@ -112,6 +114,9 @@ stream-head test a k (Cell.Event r ∷ cells) f = at (is_of a e) (stream-head te
 -- ---- of a state
 
 module _ (m : State) (p : ℕ) (h : IsWellFormed m) (projection : IsTrue (is_projection m.setting p)) where
+  abbrev whole : Option Name
+  whole = whole_at m.setting p
+
   abbrev processor_state : ProcessorState
   processor_state = processor_state_at m p
 
@@ -123,11 +128,11 @@ module _ (m : State) (p : ℕ) (h : IsWellFormed m) (projection : IsTrue (is_pro
 
   row-ok : (d : Row) (a : Name) → row_of m p a ≡ Ok (row_or d (row_of m p a))
   row-ok d a =
-      ok-or d (row_of m p a) (subst IsOk (sym (same-row (projection_at m.setting p) m.setting.sheet.chain m.cells processor_state a place.folded.prefixes)) (place.folded.rows projection a))
+      ok-or d (row_of m p a) (subst IsOk (sym (same-row whole (projection_at m.setting p) m.setting.sheet.chain m.cells processor_state a place.folded.prefixes)) (place.folded.rows projection a))
 
   is-fold : (a : Name) → IsFoldOfPrefix m p (shown_at m p a)
   is-fold a = record {
-    within = fewer (λ x. covered_in processor_state.rows (hash_of a) x.index) (items_at m a);
+    within = fewer (λ x. covered_in processor_state.rows (hash_in whole a) x.index) (items_at m a);
     row = row-ok (start_row (projection_at m.setting p).fields) a;
   }
 
@@ -140,13 +145,13 @@ module _ (m : State) (p : ℕ) (h : IsWellFormed m) (projection : IsTrue (is_pro
       at true k = (is-fold a, k)
       at false k = k
 
-  head-items : IsTrue (is_at_head m p) → (a : Name) → covered_items_in m.setting.sheet.chain m.cells processor_state.rows a ≡ items_at m a
+  head-items : IsTrue (is_at_head m p) → (a : Name) → covered_items_in whole m.setting.sheet.chain m.cells processor_state.rows a ≡ items_at m a
   head-items head a =
-      filter-items m.setting.sheet.chain (covered_in processor_state.rows (hash_of a)) (stream_in a (events m.cells))
+      filter-items m.setting.sheet.chain (covered_in processor_state.rows (hash_in whole a)) (stream_in a (events m.cells))
       ∙ ap (flat_map (placed_items m.setting.sheet.chain))
-      (stream-head (covered_in processor_state.rows (hash_of a)) a 0 m.cells
-      (λ i lt. rows-head (length m.cells) i (omega arith) processor_state.rows (hash_of a) (both (list_all (λ c. not (is_reserved c)) m.cells) (list_all (λ r. covers_all (length m.cells) r.token) processor_state.rows) head).1
-      ((rows-of processor_state.rows place.parts).once (hash_of a) (hash-small a))))
+      (stream-head (covered_in processor_state.rows (hash_in whole a)) a 0 m.cells
+      (λ i lt. rows-head (length m.cells) i (omega arith) processor_state.rows (hash_in whole a) (both (list_all (λ c. not (is_reserved c)) m.cells) (list_all (λ r. covers_all (length m.cells) r.token) processor_state.rows) head).1
+      ((rows-of processor_state.rows place.parts).once (hash_in whole a) (hash_in-small whole a))))
 
   head-shown : IsTrue (is_at_head m p) → (a : Name) → shown_at m p a ≡ rebuilt_at (projection_at m.setting p) m.setting.sheet.chain m.cells a
   head-shown head a =
@@ -158,11 +163,11 @@ module _ (m : State) (p : ℕ) (h : IsWellFormed m) (projection : IsTrue (is_pro
       count : position_of m p a ≡ length (items_at m a)
       count = ap length (head-items head a)
 
-      whole : row_of m p a ≡ fold_items rules (plain_items (items_at m a))
-      whole = ap (λ n. fold_items rules (plain_items (undropped [] (take n (items_at m a))))) count ∙ ap (λ xs. fold_items rules (plain_items (undropped [] xs))) (take-length (items_at m a)) ∙ ap (λ xs. fold_items rules (plain_items xs)) (none-dropped (items_at m a))
+      of-all : row_of m p a ≡ fold_items rules (plain_items (items_at m a))
+      of-all = ap (λ n. fold_items rules (plain_items (undropped [] (take n (items_at m a))))) count ∙ ap (λ xs. fold_items rules (plain_items (undropped [] xs))) (take-length (items_at m a)) ∙ ap (λ xs. fold_items rules (plain_items xs)) (none-dropped (items_at m a))
 
       folded : lenient rules (plain_items (items_at m a)) ≡ row_or (start_row rules.fields) (row_of m p a)
-      folded = lenient-ok rules (plain_items (items_at m a)) (start_row rules.fields) (row_or (start_row rules.fields) (row_of m p a)) (sym whole ∙ row-ok (start_row rules.fields) a)
+      folded = lenient-ok rules (plain_items (items_at m a)) (start_row rules.fields) (row_or (start_row rules.fields) (row_of m p a)) (sym of-all ∙ row-ok (start_row rules.fields) a)
 
   pub are-right : AreRight m p
   are-right = record {

@@ -1,17 +1,19 @@
 -- Names that are declared, where steps look them up.
 use Rattle.std.proofs.Common.{◌≡◌, ℕ, zero, suc, ◌<◌, Bool, true, false, not, ◌||◌, ◌&&◌, List, [], ◌∷◌, ◌++◌, length, map, Some, IsTrue, if◌then◌else◌, refl, ap, sym, ◌∙◌, subst, arith}
-use Rattle.std.specs.Prelude.{slice_get}
+use Rattle.std.specs.Prelude.{Option, None, is_some, slice_get}
 use Rattle.std.specs.List.{list_all, list_any}
 use Rattle.std.proofs.lemmas.Slice.Eq.{bytes_eq-Decides}
 use Rattle.ax_values.specs.Grammar.{Name}
-use Rattle.ax_values.specs.Words.{same_name, place_where}
+use Rattle.ax_values.specs.Words.{Payload, same_name, place_where}
 use Rattle.ax_laws.proofs.Lists.{all-at}
 use Rattle.ax_laws.proofs.Tests.{both, not-true}
 use Rattle.ax_log.specs.Log.{option_is}
 use Rattle.ax_segments.specs.Segments.{Segment}
+use Rattle.ax_sheet.specs.Commands.{Command}
+use Rattle.ax_sheet.specs.Sheet.{command_named}
 use Rattle.ax_sheet.specs.Declarations.{same_flag, names_differ, Processor}
 use Rattle.ax_state.specs.Setting.{Setting, IsSetting, processor_number, is_projection}
-use Rattle.ax_script.specs.Judging.{is_known, has_processor}
+use Rattle.ax_script.specs.Judging.{is_known, fits_found, has_processor}
 use Rattle.ax_script.specs.Queues.{queue_of, all_of}
 use Rattle.ax_journal.specs.declared.order.Order.{Order}
 use Rattle.ax_machine.specs.Run.{IsKnown}
@@ -64,6 +66,14 @@ first-projection (q ∷ qs) a d h = at (same_name q.name a) refl h (first-projec
     at false e h later = later parts.1 h
 
 -- ---- of a known order
+
+known-command : (o : Option Command) (args : Payload) → fits_found o args ≡ true → is_some o ≡ true
+known-command None args h = h
+known-command (Some found) args h = refl
+
+pub known-send : (setting : Setting) (a c : Name) (args : Payload) → IsKnown setting (Order.Send a c args) → is_some (command_named setting.sheet c) ≡ true
+unfolding is_known
+known-send setting a c args h = known-command (command_named setting.sheet c) args h
 
 pub known-claim : (setting : Setting) (p : Name) (s : Segment) → IsKnown setting (Order.Claim p s) → processor_number setting.processors p < length setting.processors
 unfolding is_known

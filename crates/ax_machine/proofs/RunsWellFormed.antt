@@ -18,7 +18,7 @@ use Rattle.ax_journal.specs.declared.reply.Reply.{Reply}
 use Rattle.ax_machine.specs.Run.{Attempt, IsKnown, IsPerformed, step, attempted, state_after_all, attempts, no_faults, setting_of, first_state, state_after}
 use Rattle.ax_machine.specs.Machines.{ArePerformed}
 use Rattle.ax_machine.specs.Promises.{ShowsRight, IsRightRun}
-use Rattle.ax_machine.proofs.Known.{known-fetch}
+use Rattle.ax_machine.proofs.Known.{known-send, known-fetch}
 use Rattle.ax_machine.proofs.Stays.{stays}
 use Rattle.ax_machine.proofs.Runs.{all-attempts}
 use Rattle.ax_machine.proofs.AtHead.{are-right}
@@ -27,7 +27,7 @@ use Rattle.ax_machine.proofs.Reported.{reports}
 -- ---- one step
 
 pub kept-step : (m : State) (k : ℕ) (o : Order) → IsSetting m.setting → IsKnown m.setting o → IsPerformed o → IsWellFormed m → IsWellFormed (step m k o).state
-kept-step m k (Order.Send a c args) s known performed h = kept-send m k a c args h
+kept-step m k (Order.Send a c args) s known performed h = kept-send m k a c args (known-send m.setting a c args known) h
 kept-step m k Order.Append s known performed h = kept-append m k h
 kept-step m k (Order.Claim p x) s known performed h = kept-claim m k p x h
 kept-step m k (Order.Fetch p x most) s known performed h = kept-fetch m k _ x most (known-fetch m.setting p x most s known) h

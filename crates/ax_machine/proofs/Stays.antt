@@ -2,24 +2,21 @@
 use Rattle.std.proofs.Common.{◌≡◌, ℕ, suc, ◌+◌, ◌^◌, ◌<◌, Bool, true, false, [], Option, Some, None, IfSome, map, length, if◌then◌else◌, refl, arith}
 use Rattle.std.specs.Prelude.{◌==◌, nat_lt}
 use Rattle.ax_values.specs.Grammar.{Name}
-use Rattle.ax_values.specs.Words.{Payload}
-use Rattle.ax_log.specs.Log.{length_of, events, put_cells}
+use Rattle.ax_log.specs.Log.{length_of, put_cells}
 use Rattle.ax_log.specs.Order.{max_cells}
 use Rattle.ax_log.specs.Answers.{aggregate_of, void_among}
 use Rattle.ax_segments.specs.Segments.{Segment}
 use Rattle.ax_claims.specs.Rows.{TokenRow, row_at}
 use Rattle.ax_claims.specs.Changes.{is_claimed}
-use Rattle.ax_sheet.specs.Sheet.{command_named}
-use Rattle.ax_sheet.specs.Commands.{Command}
 use Rattle.ax_sheet.specs.Decision.{decision}
 use Rattle.ax_state.specs.Setting.{processor_number, projection_at}
 use Rattle.ax_state.specs.State.{State, Reservation, Batch, desk_at, processor_state_at, actor_name, with_cells}
 use Rattle.ax_state.specs.Positions.{aggregate_state}
-use Rattle.ax_state.specs.Holding.{checked, held_check, held_fence}
+use Rattle.ax_world.specs.Holding.{checked, held_check, held_fence}
 use Rattle.ax_state.specs.Answer.{Answer, answer}
-use Rattle.ax_step_log.specs.Logging.{sent_by, sent_decided, appended, appended_unless, with_reservation, reservation_of, reserved_cells, released}
+use Rattle.ax_step_log.specs.Logging.{command_at, sent_decided, appended, appended_unless, with_reservation, reservation_of, reserved_cells, released}
 use Rattle.ax_step_claims.specs.Claiming.{claimed, claimed_reply, granted}
-use Rattle.ax_step_work.specs.Working.{Failure, fetch_at, commit_batch, commit_over, committed, fetched, batch_of, first_failure, present_row, batch_items, with_batch}
+use Rattle.ax_step_work.specs.Working.{Failure, fetch_at, commit_batch, commit_over, committed, fetched, batch_of, first_failure, present_row, items_of_batch, with_batch}
 use Rattle.ax_values.specs.declared.cell.Cell.{Cell}
 use Rattle.ax_sheet.specs.declared.decision.Decided.{Decided}
 use Rattle.ax_journal.specs.declared.order.Order.{Order}
@@ -50,10 +47,6 @@ stays-decided m k a (Decided.Events es) =
     pick m (nat_lt max_cells (length m.cells + length es)) (answer m Reply.LogFull)
     (answer (with_reservation k (Some (reservation_of m a es)) (with_cells (reserved_cells m k a (length es)) m)) (Reply.Reserved (length m.cells) (length es) (length_of a m.cells)))
     (record { setting = refl; fence = same m.fence; unfailing = refl }) (record { setting = refl; fence = same m.fence; unfailing = refl })
-
-stays-sent : (m : State) (k : ℕ) (a : Name) (args : Payload) (o : Option Command) → Stays m (sent_by m k a args o)
-stays-sent m k a args None = record { setting = refl; fence = same m.fence; unfailing = refl }
-stays-sent m k a args (Some found) = stays-decided m k a (decision found args (aggregate_state m a))
 
 stays-unless : (m : State) (k : ℕ) (r : Reservation) (o : Option ℕ) → Stays m (appended_unless m k r o)
 stays-unless m k r (Some i) = record { setting = refl; fence = same m.fence; unfailing = refl }
@@ -108,7 +101,7 @@ stays-committed m k b r None = record { setting = refl; fence = same m.fence; un
 stays-over : (m : State) (k : ℕ) (b : Batch) (o : Option TokenRow) → Stays m (commit_over m k b o)
 stays-over m k b None = record { setting = refl; fence = same m.fence; unfailing = refl }
 stays-over m k b (Some r) =
-    let failure = first_failure (projection_at m.setting b.processor) (present_row m b.processor) [] (batch_items m.setting.sheet.chain b (events m.cells)) in
+    let failure = first_failure (projection_at m.setting b.processor) (present_row m b.processor) [] (items_of_batch m b) in
     pick m (r.fence == b.fence) (committed m k b r failure) (answer (with_batch k None m) (Reply.Stale b.fence (Some r.fence)))
     (stays-committed m k b r failure) (record { setting = refl; fence = same m.fence; unfailing = refl })
 
@@ -119,7 +112,7 @@ stays-batch m k (Some b) = stays-over m k b (row_at b.segment (processor_state_a
 -- ---- all
 
 pub stays : (m : State) (k : ℕ) (o : Order) → IsPerformed o → Stays m (step m k o)
-stays m k (Order.Send a c args) h = stays-sent m k a args (command_named m.setting.sheet c)
+stays m k (Order.Send a c args) h = stays-decided m k a (decision (command_at m.setting.sheet c) args (aggregate_state m a))
 stays m k Order.Append h = stays-appended m k (desk_at m k).reservation
 stays m k (Order.Claim p s) h = stays-claimed m k (processor_number m.setting.processors p) s (row_at s (processor_state_at m (processor_number m.setting.processors p)).rows)
 stays m k (Order.Fetch p s most) h = stays-fetch m k (processor_number m.setting.processors p) s most

@@ -1,4 +1,4 @@
-use Rattle.ax_machine.proofs.Known.{known-claim, known-fetch, known-rows}
+use Rattle.ax_machine.proofs.Known.{known-send, known-claim, known-fetch, known-rows}
 use Rattle.ax_machine.proofs.steps.step.Goals as goal
 
 pub step-requires-in-Claim-clause-processor : goal.step-requires-in-Claim-clause-processor
