@@ -1,5 +1,5 @@
 -- What rows cover after one of them is put in the place of that of its segment, and prefixes of streams.
-use Rattle.std.proofs.Common.{◌≡◌, ℕ, zero, suc, ◌<◌, ◌≤◌, ◌^◌, Bool, true, false, IsTrue, List, [], ◌∷◌, find, length, filter, Option, Some, slice_get, slice_set, if◌then◌else◌, refl, sym, ap, ◌∙◌, subst, arith}
+use Rattle.std.proofs.Common.{◌≡◌, ℕ, zero, suc, ◌<◌, ◌≤◌, ◌^◌, Bool, true, false, List, [], ◌∷◌, find, length, filter, Option, Some, slice_get, slice_set, if◌then◌else◌, refl, sym, ap, ◌∙◌, subst, arith}
 use Rattle.ax_values.specs.Grammar.{Name}
 use Rattle.ax_laws.proofs.Lists.{map-same}
 use Rattle.ax_log.specs.Log.{Stored, stream_in}

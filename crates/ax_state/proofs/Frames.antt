@@ -1,5 +1,5 @@
 -- One lemma for each kind of change of the state: it says which parts stay well formed, and asks for what is new. What is added to the state is added here.
-use Rattle.std.specs.Prelude.{◌≡◌, ℕ, suc, ◌+◌, ◌^◌, ◌<◌, ◌≤◌, ◌==◌, Bool, true, false, IsTrue, IfSome, List, [], ◌∷◌, Option, Some, None, slice_get, slice_set, nat_lt}
+use Rattle.std.specs.Prelude.{◌≡◌, ℕ, suc, ◌+◌, ◌^◌, ◌<◌, ◌≤◌, ◌==◌, Bool, true, false, IsTrue, IfSome, List, Option, Some, None, slice_get, slice_set, nat_lt}
 use Rattle.std.specs.List.{AllByRecursion}
 use Rattle.std.proofs.Common.{refl, ap, sym, ◌∙◌, subst, arith}
 use Rattle.std.proofs.lemmas.Bool.Decides.{nat_tests}
@@ -14,7 +14,7 @@ use Rattle.ax_state.specs.Every.{AllFrom, count, one, option_or}
 use Rattle.ax_state.specs.Setting.{Setting, name_at, is_saga, whole_at, needs_no_gaps}
 use Rattle.ax_state.specs.State.{State, ProcessorState, Desk, Batch, desk_at, processor_state_at, empty_desk, empty_processor, actor_name, with_desk, with_cells, with_fence, with_rows}
 use Rattle.ax_state.specs.Positions.{first_letter, drops_of}
-use Rattle.ax_state.specs.Portions.{Portion, portion_of, portions, covered_events}
+use Rattle.ax_state.specs.Portions.{Portion, portions, covered_events}
 use Rattle.ax_state.specs.WellFormed.{IsWellFormed, AreReserved, HoldsCells, IsReservation, IsDeskOf, IsBatchIn, IsBatchAt, IsBatchRow, IsProcessorState, IsProcessorBy, IsFencedProcessor, IsOwnedRight, IsFolded, AreParts, AreTokens, IsTokenOver, TokenPrefix, HasRows, OwnsRow, OwnsAs, reserved_by, holds_cell, fence_count, has_no_gaps, has_no_replay}
 use Rattle.ax_state.proofs.Lists.{All-map, All-set, All-at, All-get, All-got, AllFrom-map, AllFrom-set, AllFrom-at, AllFrom-get, count-set, count-set_same, count-none, one-most, IfSome-map}
 use Rattle.ax_state.proofs.RowPuts.{found-row, put-set, put-all, put-portions, put-parts, put-same, fence_count-set, fence_count-above, fenced-later}

@@ -1,7 +1,7 @@
 -- Cells that grow: what is covered stays, and stays a prefix.
-use Rattle.std.specs.Prelude.{◌≡◌, ℕ, ◌≤◌, Bool, true, false, IsTrue, IfSome, List, [], ◌∷◌, length, filter, find, Option, Some, None, if◌then◌else◌}
+use Rattle.std.specs.Prelude.{◌≡◌, ℕ, ◌≤◌, Bool, true, false, IsTrue, IfSome, List, [], ◌∷◌, length, filter, find, Option, Some, if◌then◌else◌}
 use Rattle.std.specs.List.{AllByRecursion}
-use Rattle.std.proofs.Common.{refl, sym, subst, arith}
+use Rattle.std.proofs.Common.{sym, subst, arith}
 use Rattle.ax_values.specs.Grammar.{Name}
 use Rattle.ax_log.specs.Log.{Stored, events, is_settled}
 use Rattle.ax_segments.specs.Segments.{matches, is_upper, half_mask}

@@ -9,7 +9,7 @@ use Rattle.ax_laws.proofs.Tests.{both}
 use Rattle.ax_segments.specs.Segments.{Segment, IsSegment, matches, same_segment}
 use Rattle.ax_claims.specs.Rows.{TokenRow, AreRows, row_at, put_row, row_below}
 use Rattle.ax_claims.proofs.RowPlaces.{put-here, rows-kept, rises-above, same-segment}
-use Rattle.ax_state.specs.Every.{count, one}
+use Rattle.ax_state.specs.Every.{count}
 use Rattle.ax_state.specs.State.{ProcessorState}
 use Rattle.ax_state.specs.Portions.{Portion, portion_of, portions}
 use Rattle.ax_state.specs.WellFormed.{AreParts, IsFencedProcessor, fence_count}
