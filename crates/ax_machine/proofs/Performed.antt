@@ -17,7 +17,7 @@ use Rattle.ax_script.specs.Judging.{is_known, actor_place}
 use Rattle.ax_script.specs.Plans.{Plan, IsPlan}
 use Rattle.ax_script.specs.Queues.{queue_of, all_of, times_of}
 use Rattle.ax_world.specs.WorldTables.{WorldTables, starting, state_of}
-use Rattle.ax_world.proofs.Segments.{few_of_count}
+use Rattle.ax_state.proofs.SegmentCounts.{few_of_count}
 use Rattle.ax_world.proofs.Starts.{state-starting}
 use Rattle.ax_journal.specs.declared.entry.Entry.{Entry}
 use Rattle.ax_journal.specs.declared.order.Order.{Order}
