@@ -3,3 +3,4 @@ mod Declared
 mod Standing
 mod Pieces
 mod WorkedScripts
+pub mod BuiltSteps
