@@ -1,2 +1,3 @@
 pub mod HeadlineLaws
+pub mod ScriptsPerformed
 mod WorkedRows

@@ -1,4 +1,4 @@
--- What the program answers to its words and its input, where nothing fails.
+-- What the program gives for its words and its input, where nothing fails.
 use Rattle.std.specs.Prelude.{if◌then◌else◌, List, [], ◌∷◌, ◌++◌, Option, Some, None, Result, Ok, Err, codes}
 use Rattle.std.specs.List.{flat_map}
 use Rattle.std.specs.Fmt.{decimal}
@@ -11,7 +11,7 @@ use Rattle.ax_script.specs.declared.kind.ScriptKind.{ScriptKind}
 use Rattle.ax_script.specs.Plans.{Plan}
 use Rattle.ax_script.specs.Reading.{Wrong, script_in}
 use Rattle.ax_report.specs.Reports.{rebuild_text}
-use Rattle.ax_machine.specs.Run.{run, last_state}
+use Rattle.ax_machine.specs.Run.{run_of, end_of}
 use Rattle.ax_top.specs.declared.status.Status.{Status}
 use Rattle.ax_top.specs.declared.task.Task.{Task}
 
@@ -51,10 +51,10 @@ fault_text w = codes "script " ++ decimal w.line ++ codes " " ++ kind_text w.kin
 abbrev pub journal_text : List Entry → Line
 journal_text entries = flat_map entry_text entries
 
--- the text of each step; or the rows that the log alone gives behind the last step
+-- the text of each step; or the rows that the log alone gives after the last step
 abbrev pub task_text : Task → Plan → Line
-task_text Task.Run plan = journal_text (run plan)
-task_text Task.Rebuild plan = rebuild_text (last_state plan)
+task_text Task.Run plan = journal_text (run_of plan)
+task_text Task.Rebuild plan = rebuild_text (end_of plan)
 
 -- ---- answers
 

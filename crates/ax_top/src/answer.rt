@@ -38,7 +38,7 @@ fn kind_text(kind: ScriptKind) -> &'static [u8]
     }
 }
 
-/// The answer to a faulty script.
+/// The message of a faulty script.
 pub(crate) fn refusal(alloc: Global, line: u32, kind: ScriptKind) -> Result<Answered, NoMemory>
     ensures answer { IfOk result (λ a. answer_of a ≡ fault_answer (record { line = line; kind = kind })) }
     ensures told { IfOk result (λ a. IsTold a.status) }
@@ -55,7 +55,7 @@ pub(crate) fn refusal(alloc: Global, line: u32, kind: ScriptKind) -> Result<Answ
     })
 }
 
-/// The answer to a script.
+/// What a script gives: the text of its task, or the message of its first fault.
 pub(crate) fn answer(alloc: Global, task: Task, bytes: &[u8]) -> Result<Answered, NoMemory>
     ensures answer { IfOk result (λ a. answer_of a ≡ script_answer task (script_in is_built bytes.now)) }
     ensures right { IfOk result (λ a. AlwaysRight (script_in is_built bytes.now)) }

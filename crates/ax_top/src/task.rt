@@ -6,7 +6,7 @@ ghost use Rattle.ax_top.specs.Run.{task_named, task_of};
 pub(crate) enum Task {
     /// The text of each step.
     Run,
-    /// The rows that the log alone gives behind the last step.
+    /// The rows that the log alone gives after the last step.
     Rebuild,
 }
 

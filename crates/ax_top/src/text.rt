@@ -1,5 +1,6 @@
-ghost use Rattle.std.specs.Prelude.{ℕ, ◌≡◌, ◌++◌, IfOk, OnOk};
-ghost use Rattle.ax_machine.specs.Promises.{ShowsRight, state_after};
+ghost use Rattle.std.specs.Prelude.{◌≡◌, ◌++◌, IfOk, OnOk};
+ghost use Rattle.ax_machine.specs.Machines.{ArePerformed};
+ghost use Rattle.ax_machine.specs.Promises.{IsRightRun};
 ghost use Rattle.ax_top.specs.Run.{journal_text, task_text};
 
 use crate::task::Task;
@@ -22,8 +23,9 @@ fn write_journal(entries: &[Entry], out: &mut Vec<u8>) -> Result<(), NoMemory>
 
 /// What a task prints of a plan, which is performed whole before.
 pub(crate) fn task_text(alloc: Global, task: Task, plan: Plan) -> Result<Vec<u8>, NoMemory>
+    requires { ArePerformed plan.orders }
     ensures text { IfOk result (λ text. text.items ≡ task_text task plan) }
-    ensures right { IfOk result (λ text. (orders : ℕ) → ShowsRight (state_after plan orders)) }
+    ensures right { IfOk result (λ _. IsRightRun plan) }
 {
     let machine = run(alloc, plan)?;
     let mut text = Vec::new(alloc);

@@ -1,9 +1,8 @@
 ghost use Rattle.std.specs.Prelude.{◌≡◌, ◌↔◌, None, map, string_bytes, IfOk, MatchResult};
 ghost use Rattle.std.specs.Io.KnownBytes.{Keeps};
-ghost use Rattle.ax_ports.specs.Ports.{Rose};
 ghost use Rattle.ax_top.specs.Run.{Answer, task_of, usage_text};
 ghost use Rattle.ax_top.specs.Answered.{answer_of};
-ghost use Rattle.ax_top.specs.Headline.{Given, Answers, IsTold, IsDelivered, IsBuilt};
+ghost use Rattle.ax_top.specs.Headline.{Call, IsOutcomeOf, IsAnswered, IsTold, IsDelivered, IsBuilt, LeavesReads, LeavesWrites};
 
 use crate::answer::{Answered, answer, refusal};
 use crate::status::Status;
@@ -20,9 +19,9 @@ const USAGE: &[u8] =
 
 fn deliver<W: Sink>(sink: &mut W, status: Status, text: &[u8]) -> Status
     requires { IsTold status }
-    ensures given { Given (record { status = status; text = text.now }) result (W.taken sink.old) (W.taken sink.new) (W.faults sink.old) (W.faults sink.new) }
+    ensures outcome { IsOutcomeOf (record { status = status; text = text.now }) result (W.taken sink.old) (W.taken sink.new) (W.faults sink.old) (W.faults sink.new) }
     ensures delivered { IsDelivered result }
-    ensures done { result ≡ Status.Done → W.faults sink.new ≡ W.faults sink.old }
+    ensures write { LeavesWrites result (W.faults sink.old) (W.faults sink.new) }
 {
     match write_all(sink, text) {
         Ok(()) => status,
@@ -35,11 +34,11 @@ fn deliver<W: Sink>(sink: &mut W, status: Status, text: &[u8]) -> Status
 
 fn give<W: Sink>(sink: &mut W, answered: Result<Answered, NoMemory>) -> Status
     requires { IfOk answered (λ a. IsTold a.status) }
-    ensures given { MatchResult answered
-        (λ a. Given (answer_of a) result (W.taken sink.old) (W.taken sink.new) (W.faults sink.old) (W.faults sink.new))
+    ensures outcome { MatchResult answered
+        (λ a. IsOutcomeOf (answer_of a) result (W.taken sink.old) (W.taken sink.new) (W.faults sink.old) (W.faults sink.new))
         (λ _. (result ≡ Status.Memory) × Keeps (W.taken sink.old) (W.taken sink.new)) }
     ensures delivered { MatchResult answered (λ _. IsDelivered result) (λ _. result ≡ Status.Memory) }
-    ensures done { result ≡ Status.Done → W.faults sink.new ≡ W.faults sink.old }
+    ensures write { LeavesWrites result (W.faults sink.old) (W.faults sink.new) }
 {
     match answered {
         Ok(answered) => deliver(sink, answered.status, &answered.text),
@@ -53,12 +52,20 @@ fn run_words<S: Source, W: Sink>(
     source: &mut S,
     sink: &mut W,
 ) -> Status
-    ensures answer { Answers (map string_bytes words.now) (S.left source.old) result
-        (W.taken sink.old) (W.taken sink.new) (W.faults sink.old) (W.faults sink.new) }
+    ensures answer { IsAnswered (record {
+      words = map string_bytes words.now;
+      left = S.left source.old;
+      status = result;
+      old = W.taken sink.old;
+      new = W.taken sink.new;
+      reads_before = S.faults source.old;
+      reads_now = S.faults source.new;
+      writes_before = W.faults sink.old;
+      writes_now = W.faults sink.new;
+    }) }
     ensures usage { (result ≡ Status.Usage) ↔ (task_of (map string_bytes words.now) ≡ None) }
-    ensures read { result ≡ Status.ReadFault → Rose (S.faults source.old) (S.faults source.new) }
-    ensures write { result ≡ Status.WriteFault → Rose (W.faults sink.old) (W.faults sink.new) }
-    ensures done { result ≡ Status.Done → (S.faults source.new ≡ S.faults source.old) × (W.faults sink.new ≡ W.faults sink.old) }
+    ensures read { LeavesReads result (S.faults source.old) (S.faults source.new) }
+    ensures write { LeavesWrites result (W.faults sink.old) (W.faults sink.new) }
     ensures unread { result ≡ Status.Usage → (S.left source.new ≡ S.left source.old) × (S.faults source.new ≡ S.faults source.old) }
     ensures built { IsBuilt result }
 {
@@ -84,19 +91,29 @@ pub fn run_script<S: Source, W: Sink, K: Keeper>(
     sink: &mut W,
     keeper: K,
 ) -> (Status, K)
-    // There are bytes, those that the source has left where it tells them, such that the status and what is written
+    // There are bytes, those that the source had left where it shows them, such that the status and what is written
     // are what is asked of the script that they are, whole, or a front of it where the sink's count rose;
-    // or the message of the script's first fault; or that of the usage. And behind each number of orders of that script, every
-    // row that a projection shows is the fold, each item once, of a prefix of its aggregate's items in order; and where a
-    // projection is at the head, its rows are those that the log alone gives.
-    ensures answer { Answers (map string_bytes words.now) (S.left source.old) result.0
-        (W.taken sink.old) (W.taken sink.new) (W.faults sink.old) (W.faults sink.new) }
+    // or the message of the script's first fault; or that of the usage. And after each number of orders of that script, every
+    // row that a projection shows is the fold, each item once, of a prefix of its aggregate's items in order; where a
+    // projection is at the head, its rows are those that the log alone gives; and each report of rows that is printed has the
+    // lines of that state's rows. Where the words and the script are in their grammars and neither count rose, the
+    // status is Done or Memory.
+    ensures answer { IsAnswered (record {
+      words = map string_bytes words.now;
+      left = S.left source.old;
+      status = result.0;
+      old = W.taken sink.old;
+      new = W.taken sink.new;
+      reads_before = S.faults source.old;
+      reads_now = S.faults source.new;
+      writes_before = W.faults sink.old;
+      writes_now = W.faults sink.new;
+    }) }
 
-    // When each status comes, also where source and sink tell nothing of their bytes.
+    // When each status comes, also where source and sink show nothing of their bytes.
     ensures usage { (result.0 ≡ Status.Usage) ↔ (task_of (map string_bytes words.now) ≡ None) }
-    ensures read { result.0 ≡ Status.ReadFault → Rose (S.faults source.old) (S.faults source.new) }
-    ensures write { result.0 ≡ Status.WriteFault → Rose (W.faults sink.old) (W.faults sink.new) }
-    ensures done { result.0 ≡ Status.Done → (S.faults source.new ≡ S.faults source.old) × (W.faults sink.new ≡ W.faults sink.old) }
+    ensures read { LeavesReads result.0 (S.faults source.old) (S.faults source.new) }
+    ensures write { LeavesWrites result.0 (W.faults sink.old) (W.faults sink.new) }
     ensures unread { result.0 ≡ Status.Usage → (S.left source.new ≡ S.left source.old) × (S.faults source.new ≡ S.faults source.old) }
     ensures built { IsBuilt result.0 }
     ensures keeper { result.1 ≡ keeper }
