@@ -1,5 +1,5 @@
 use ax_case_lines::{CaseFault, case_named, first_word, u32_of};
-use ax_script::{Plan, ScriptFault, ScriptKind, read};
+use ax_script::{Plan, ScriptFault, read};
 use ax_values::{write_number, write_u32};
 use std::alloc::Global;
 
@@ -102,7 +102,7 @@ fn write_read(alloc: Global, script: &[u8], out: &mut Vec<u8>) -> Result<(), Cas
         Err(ScriptFault::Wrong { line, kind }) => {
             write_u32(line, out)?;
             out.push(b' ')?;
-            out.extend_from_slice(word_of(kind))?;
+            out.extend_from_slice(kind.word())?;
             Ok(())
         }
         Err(ScriptFault::Memory) => Err(CaseFault::Memory),
@@ -115,20 +115,4 @@ fn count_steps(plan: &Plan) -> usize {
         steps = steps.saturating_add(queue.parts().len());
     }
     steps
-}
-
-fn word_of(kind: ScriptKind) -> &'static [u8] {
-    match kind {
-        ScriptKind::Long => b"long",
-        ScriptKind::Cut => b"cut",
-        ScriptKind::Bytes => b"bytes",
-        ScriptKind::Form => b"form",
-        ScriptKind::Later => b"later",
-        ScriptKind::Sheet => b"sheet",
-        ScriptKind::Twice => b"twice",
-        ScriptKind::Unknown => b"unknown",
-        ScriptKind::Limit => b"limit",
-        ScriptKind::Stopped => b"stopped",
-        ScriptKind::Schedule => b"schedule",
-    }
 }

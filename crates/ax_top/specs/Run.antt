@@ -7,7 +7,7 @@ use Rattle.ax_values.specs.Grammar.{Line}
 use Rattle.ax_journal.specs.declared.entry.Entry.{Entry}
 use Rattle.ax_journal.specs.Form.{is_built}
 use Rattle.ax_journal.specs.Entries.{entry_text}
-use Rattle.ax_script.specs.declared.kind.ScriptKind.{ScriptKind}
+use Rattle.ax_script.specs.Kinds.{kind_text}
 use Rattle.ax_script.specs.Plans.{Plan}
 use Rattle.ax_script.specs.Reading.{Wrong, script_in}
 use Rattle.ax_report.specs.Reports.{rebuild_text}
@@ -30,19 +30,6 @@ task_of (word ∷ other ∷ words) = None
 
 abbrev pub usage_text : Line
 usage_text = codes "usage: axrun run [--threads] [--brief] [--keep PATH] | rebuild [--keep PATH] | gen N\n"
-
-abbrev pub kind_text : ScriptKind → Line
-kind_text ScriptKind.Long = codes "long"
-kind_text ScriptKind.Cut = codes "cut"
-kind_text ScriptKind.Bytes = codes "bytes"
-kind_text ScriptKind.Form = codes "form"
-kind_text ScriptKind.Later = codes "later"
-kind_text ScriptKind.Sheet = codes "sheet"
-kind_text ScriptKind.Twice = codes "twice"
-kind_text ScriptKind.Unknown = codes "unknown"
-kind_text ScriptKind.Limit = codes "limit"
-kind_text ScriptKind.Stopped = codes "stopped"
-kind_text ScriptKind.Schedule = codes "schedule"
 
 abbrev pub fault_text : Wrong → Line
 fault_text w = codes "script " ++ decimal w.line ++ codes " " ++ kind_text w.kind ++ codes "\n"

@@ -2,7 +2,7 @@ ghost use Rattle.std.specs.Prelude.{◌≡◌, IfOk};
 ghost use Rattle.ax_journal.specs.Form.{is_built};
 ghost use Rattle.ax_script.specs.Reading.{script_in};
 ghost use Rattle.ax_machine.specs.Promises.{AlwaysRight};
-ghost use Rattle.ax_top.specs.Run.{Answer, kind_text, fault_text, fault_answer, script_answer};
+ghost use Rattle.ax_top.specs.Run.{Answer, fault_text, fault_answer, script_answer};
 ghost use Rattle.ax_top.specs.Answered.{answer_of};
 ghost use Rattle.ax_top.specs.Headline.{IsTold};
 
@@ -20,24 +20,6 @@ pub(crate) struct Answered {
     pub(crate) text: Vec<u8>,
 }
 
-fn kind_text(kind: ScriptKind) -> &'static [u8]
-    ensures { result.now ≡ kind_text kind }
-{
-    match kind {
-        ScriptKind::Long => b"long",
-        ScriptKind::Cut => b"cut",
-        ScriptKind::Bytes => b"bytes",
-        ScriptKind::Form => b"form",
-        ScriptKind::Later => b"later",
-        ScriptKind::Sheet => b"sheet",
-        ScriptKind::Twice => b"twice",
-        ScriptKind::Unknown => b"unknown",
-        ScriptKind::Limit => b"limit",
-        ScriptKind::Stopped => b"stopped",
-        ScriptKind::Schedule => b"schedule",
-    }
-}
-
 /// The message of a faulty script.
 pub(crate) fn refusal(alloc: Global, line: u32, kind: ScriptKind) -> Result<Answered, NoMemory>
     ensures answer { IfOk result (λ a. answer_of a ≡ fault_answer (record { line = line; kind = kind })) }
@@ -47,7 +29,7 @@ pub(crate) fn refusal(alloc: Global, line: u32, kind: ScriptKind) -> Result<Answ
     text.extend_from_slice(b"script ")?;
     write_number(u64::from(line), &mut text)?;
     text.push(b' ')?;
-    text.extend_from_slice(kind_text(kind))?;
+    text.extend_from_slice(kind.word())?;
     text.push(b'\n')?;
     Ok(Answered {
         status: Status::Script,
