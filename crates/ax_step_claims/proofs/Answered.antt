@@ -33,6 +33,9 @@ abbrev pub IsRefusal : Segment → Name → ℕ → List TokenRow → Refused �
 IsRefusal s actor now rows Refused.NoSegment = row_at s rows ≡ None
 IsRefusal s actor now rows (Refused.Claimed place) = (r : TokenRow) × (slice_get rows place ≡ Some r) × (row_at s rows ≡ Some r) × (is_claimed actor now r ≡ true)
 IsRefusal s actor now rows (Refused.Stale held found) = ⊥
+IsRefusal s actor now rows Refused.NotHeld = ⊥
+IsRefusal s actor now rows Refused.MaskFull = ⊥
+IsRefusal s actor now rows Refused.Alone = ⊥
 
 find-place : (t : TokenRow → Bool) (rows : List TokenRow) (r : TokenRow) → find t rows ≡ Some r → slice_get rows (place_where t rows) ≡ Some r
 find-place t [] r e = absurd (cc)
@@ -64,6 +67,9 @@ pub names-owned : (s : Segment) (actor : Name) (now : ℕ) (rows : List TokenRow
 names-owned s actor now rows Refused.NoSegment h = tt
 names-owned s actor now rows (Refused.Claimed place) h = subst HasOwner (sym h.1) (claimed-owner actor h.0.owner (not (is_expired now h.0)) h.3)
 names-owned s actor now rows (Refused.Stale held found) h = tt
+names-owned s actor now rows Refused.NotHeld h = tt
+names-owned s actor now rows Refused.MaskFull h = tt
+names-owned s actor now rows Refused.Alone h = tt
 
 refused-answer : (m : State) (actor p : ℕ) (s : Segment) (refused : Refused) → IsRefusal s (actor_name m actor) m.clock (processor_state_at m p).rows refused
     → claimed m actor p s (row_at s (processor_state_at m p).rows) ≡ answer m (refused_reply (processor_state_at m p).rows refused)
@@ -71,6 +77,9 @@ refused-answer m actor p s Refused.NoSegment h = ap (claimed m actor p s) h
 refused-answer m actor p s (Refused.Claimed place) h =
     ap (claimed m actor p s) h.2 ∙ ap (λ b. if b then answer m (claimed_reply h.0 h.0.owner) else granted m actor p s h.0) h.3 ∙ ap (λ o. answer m (found_reply o)) (sym h.1)
 refused-answer m actor p s (Refused.Stale held found) h = absurd h
+refused-answer m actor p s Refused.NotHeld h = absurd h
+refused-answer m actor p s Refused.MaskFull h = absurd h
+refused-answer m actor p s Refused.Alone h = absurd h
 
 -- the move of a refusal
 pub refused-move : (w : WorldTables) (actor p : ℕ) (s : Segment) (rows : List TokenRow) (refused : Refused) (reply : Reply) → IsWorld w → rows ≡ (processor_tables_at w p).processor_state.rows

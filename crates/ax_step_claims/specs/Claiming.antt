@@ -53,6 +53,9 @@ abbrev pub refused_reply : List TokenRow → Refused → Reply
 refused_reply rows Refused.NoSegment = Reply.NoSegment
 refused_reply rows (Refused.Claimed place) = found_reply (slice_get rows place)
 refused_reply rows (Refused.Stale held found) = Reply.Stale held found
+refused_reply rows Refused.NotHeld = Reply.NotHeld
+refused_reply rows Refused.MaskFull = Reply.MaskFull
+refused_reply rows Refused.Alone = Reply.Alone
 
 abbrev pub HasOwner : Option TokenRow → Type 0
 HasOwner None = ⊥
@@ -63,6 +66,9 @@ abbrev pub NamesOwned : List TokenRow → Refused → Type 0
 NamesOwned rows Refused.NoSegment = Unit {0}
 NamesOwned rows (Refused.Claimed place) = HasOwner (slice_get rows place)
 NamesOwned rows (Refused.Stale held found) = Unit {0}
+NamesOwned rows Refused.NotHeld = Unit {0}
+NamesOwned rows Refused.MaskFull = Unit {0}
+NamesOwned rows Refused.Alone = Unit {0}
 
 -- ---- steps
 

@@ -33,5 +33,8 @@ pub(crate) fn refused_reply(
         Refused::NoSegment => Ok(Reply::NoSegment),
         Refused::Claimed { place } => claimed_reply(alloc, &rows[place as usize]),
         Refused::Stale { held, found } => Ok(Reply::Stale { held, found }),
+        Refused::NotHeld => Ok(Reply::NotHeld),
+        Refused::MaskFull => Ok(Reply::MaskFull),
+        Refused::Alone => Ok(Reply::Alone),
     }
 }

@@ -93,8 +93,14 @@ abbrev pub IsStale : Refused → Type 0
 IsStale Refused.NoSegment = ⊥
 IsStale (Refused.Claimed place) = ⊥
 IsStale (Refused.Stale held found) = Unit {0}
+IsStale Refused.NotHeld = ⊥
+IsStale Refused.MaskFull = ⊥
+IsStale Refused.Alone = ⊥
 
 abbrev pub stale_reply : Refused → Reply
 stale_reply Refused.NoSegment = Reply.NoSegment
 stale_reply (Refused.Claimed place) = Reply.NoSegment
 stale_reply (Refused.Stale held found) = Reply.Stale held found
+stale_reply Refused.NotHeld = Reply.NotHeld
+stale_reply Refused.MaskFull = Reply.MaskFull
+stale_reply Refused.Alone = Reply.Alone

@@ -69,6 +69,9 @@ fn stale_reply(refused: Refused) -> Reply
         Refused::Stale { held, found } => Reply::Stale { held, found },
         Refused::NoSegment => unreachable!(),
         Refused::Claimed { .. } => unreachable!(),
+        Refused::NotHeld => unreachable!(),
+        Refused::MaskFull => unreachable!(),
+        Refused::Alone => unreachable!(),
     }
 }
 

@@ -1,20 +1,35 @@
 //! Runs a script of standard input, and prints the text of its run.
 #![tactic(auto)]
 
-ghost use Rattle.std.specs.Prelude.{◌≡◌};
+ghost use Rattle.std.specs.Prelude.{◌≡◌, IsErr, IfErr};
+ghost use Rattle.std.specs.IoError.{error_kind};
+ghost use Rattle.std.specs.declared.io.ErrorKind.TheVariants.{OutOfMemory};
 ghost use Rattle.axrun.specs.Codes.{code_of};
 
 use ax_ports::{MemoryKeeper, StdSink, StdSource};
 use ax_top::{Status, run_script};
+use ax_values::NoMemory;
 use std::alloc::Global;
+use std::env::Args;
 use std::process::ExitCode;
-use std::rt::Env;
 use std::{env, io};
 
-fn words(rt: &(impl Env + AllocGlobal)) -> io::Result<Vec<String>> {
-    let mut words = Vec::new(rt.alloc());
-    for word in env::args(rt)?.skip(1) {
-        words.push(word)?;
+/// The words after the program's name. Words that are no texts are not in the grammar, as no words are not.
+fn words(alloc: Global, read: io::Result<Args>) -> Result<Vec<String>, NoMemory>
+    ensures wanting { IfErr read (λ error. error_kind error ≡ OutOfMemory → IsErr result) }
+{
+    let mut words = Vec::new(alloc);
+    match read {
+        Ok(read) => {
+            for word in read.skip(1) {
+                words.push(word)?;
+            }
+        }
+        Err(error) => {
+            if error.kind() == io::ErrorKind::OutOfMemory {
+                return Err(NoMemory);
+            }
+        }
     }
     Ok(words)
 }
@@ -38,10 +53,8 @@ fn code(status: Status) -> u8
 
 fn main(rt: HostRuntime) -> ExitCode {
     let alloc: Global = rt.alloc();
-    // Words that cannot be read are not in the grammar, as no words are not.
-    let words = match words(&rt) {
-        Ok(words) => words,
-        Err(_) => Vec::new(alloc),
+    let Ok(words) = words(alloc, env::args(&rt)) else {
+        return ExitCode::from(code(Status::Memory));
     };
     let mut source = StdSource::new(Some(rt.reader()));
     let mut sink = StdSink::new(io::writer(&rt));
