@@ -1,6 +1,6 @@
 use crate::scripts::Scripts;
 use crate::sinks::ByteSink;
-use ax_case_lines::{CaseFault, case_named, first_word, u32_of};
+use ax_case_lines::{CaseFault, case_named, u32_of};
 use ax_ports::{MemoryKeeper, MemorySink, MemorySource, StdSource};
 use ax_top::{Status, run_script};
 use ax_values::{line_words, write_number};
@@ -16,7 +16,6 @@ pub(crate) enum CallCase {
     Wordless,
     Unread,
     Status,
-    Tail,
     Run,
     Cuts,
     Rooms,
@@ -31,7 +30,6 @@ impl CallCase {
             b"wordless" => CallCase::Wordless,
             b"unread" => CallCase::Unread,
             b"status" => CallCase::Status,
-            b"tail" => CallCase::Tail,
             b"run" => CallCase::Run,
             b"cuts" => CallCase::Cuts,
             b"rooms" => CallCase::Rooms
@@ -76,7 +74,6 @@ impl Calls {
                 let (status, _) = run(alloc, &words, scripts.script())?;
                 write_status(status, out)
             }
-            CallCase::Tail => write_tail(alloc, rest, scripts.script(), out),
             CallCase::Run => {
                 let words = words_of(alloc, b"run")?;
                 let script = scripts.with(alloc, rest)?;
@@ -173,22 +170,6 @@ fn write_unread(alloc: Global, rest: &[u8], out: &mut Vec<u8>) -> Result<(), Cas
     write_text(sink.bytes(), out)
 }
 
-/// What a call over the script ends with, and the last bytes of what it prints: `COUNT WORDS`.
-fn write_tail(
-    alloc: Global,
-    rest: &[u8],
-    script: &[u8],
-    out: &mut Vec<u8>,
-) -> Result<(), CaseFault> {
-    let (count, words) = first_word(rest);
-    let count = u32_of(count)? as usize;
-    let words = words_of(alloc, words)?;
-    let (status, sink) = run(alloc, &words, script)?;
-    write_status(status, out)?;
-    let text = sink.bytes();
-    write_text(&text[text.len().saturating_sub(count)..], out)
-}
-
 /// What a call over the script ends with, cut after each of its bytes in turn: `done`, or the message.
 fn write_cuts(alloc: Global, script: &[u8], out: &mut Vec<u8>) -> Result<(), CaseFault> {
     let words = words_of(alloc, b"run")?;
@@ -255,26 +236,5 @@ fn word_of(status: Status) -> &'static [u8] {
         Status::BadRows => b"bad rows",
         Status::OtherSheet => b"other sheet",
         Status::Memory => b"memory",
-    }
-}
-
-#[cfg(test)]
-mod tests {
-    use super::*;
-    use std::test::Fail;
-
-    /// A source that fails at its second read ends the call, and nothing is printed.
-    #[test]
-    fn second_read_fails(rt: HostRuntime) -> Result<(), Fail> {
-        let alloc = rt.alloc();
-        let mut words = Vec::new(alloc);
-        words.push(String::from_str(alloc, "run")?)?;
-        let script = b"axon 1\nsheet cards\norders\n".to_vec(alloc)?;
-        let mut source = MemorySource::new(script, [1u32].to_vec(alloc)?);
-        let mut sink = MemorySink::new(alloc, Vec::new(alloc));
-        let (status, _) = run_script(alloc, &words, &mut source, &mut sink, keeper(alloc));
-        assert_eq!(rt; status, Status::ReadFault);
-        assert_eq!(rt; sink.bytes().len(), 0);
-        Ok(())
     }
 }
