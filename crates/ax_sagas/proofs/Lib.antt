@@ -1,0 +1,5 @@
+pub mod PutLaws
+pub mod LinkLaws
+pub mod RowLaws
+pub mod SagaLaws
+pub mod TextLaws
