@@ -6,8 +6,8 @@ use Rattle.ax_laws.proofs.Options.{some-is}
 use Rattle.ax_claims.specs.Rows.{TokenRow, row_at}
 use Rattle.ax_state.specs.Every.{AllFrom, count, one, option_or}
 use Rattle.ax_state.specs.Setting.{name_at}
-use Rattle.ax_state.specs.State.{State, ProcessorState, Held, Reservation, Batch, Desk, desk_at, processor_state_at, empty_processor, actor_name, with_desk}
-use Rattle.ax_state.specs.WellFormed.{IsWellFormed, AreReserved, HoldsCells, IsProcessorState, IsStanding, IsBatchRow, IsBatchAt, IsBatchIn, OwnsAs, holds_cell}
+use Rattle.ax_state.specs.State.{State, ProcessorState, Held, Reservation, Batch, Desk, desk_at, processor_state_at, empty_processor, empty_desk, actor_name, with_desk}
+use Rattle.ax_state.specs.WellFormed.{IsWellFormed, AreReserved, HoldsCells, IsReservation, IsProcessorState, IsStanding, IsBatchRow, IsBatchAt, IsBatchIn, OwnsAs, holds_cell}
 use Rattle.ax_state.proofs.Lists.{All-got, AllFrom-set, AllFrom-got, count-set}
 use Rattle.ax_state.proofs.RowPuts.{found-row, one-place, rows-of}
 use Rattle.ax_state.proofs.Frames.{seat-at, batch-at, same-reservation, kept-desk, place-there, place-at}
@@ -20,16 +20,24 @@ kept-reservation m actor o reserved h =
     let seat = seat-at m actor h in
     kept-desk m actor (record (desk_at m actor) { reservation = o }) (record { reserved = reserved; seat = record { held = seat.held; batch = seat.batch }; batch = batch-at m actor h }) h
 
+-- a desk without a reservation holds no cell
+pub unreserved : (m : State) (actor : ℕ) (desk : Desk) → desk.reservation ≡ None → IsWellFormed m → AreReserved m.cells m.setting.actors (slice_set m.desks actor desk)
+unreserved m actor desk none h = record {
+  each = AllFrom-set (λ k d. HoldsCells m.cells (name_at m.setting.actors k) d) 0 m.desks actor desk h.reserved.each (λ k e. subst (λ o. IfSome o (IsReservation m.cells (name_at m.setting.actors k))) (sym none) tt);
+  apart = λ i. let more : count (λ d. holds_cell i d.reservation) (slice_set m.desks actor desk) ≤ count (λ d. holds_cell i d.reservation) m.desks + one (holds_cell i desk.reservation) = count-set (λ d. holds_cell i d.reservation) m.desks actor desk in
+      let empty : one (holds_cell i desk.reservation) ≡ 0 = ap (λ o. one (holds_cell i o)) none in
+      let was : count (λ d. holds_cell i d.reservation) m.desks ≤ 1 = h.reserved.apart i in omega arith;
+}
+
 -- a reservation may always be given up
 pub kept-unreserved : (m : State) (actor : ℕ) → IsWellFormed m → IsWellFormed (with_desk actor (record (desk_at m actor) { reservation = None }) m)
-kept-unreserved m actor h = kept-reservation m actor None (record {
-  each = AllFrom-set (λ k d. HoldsCells m.cells (name_at m.setting.actors k) d) 0 m.desks actor desk h.reserved.each (λ k e. tt);
-  apart = λ i. let more : count (λ d. holds_cell i d.reservation) (slice_set m.desks actor desk) ≤ count (λ d. holds_cell i d.reservation) m.desks + one (holds_cell i desk.reservation) = count-set (λ d. holds_cell i d.reservation) m.desks actor desk in
-      let was : count (λ d. holds_cell i d.reservation) m.desks ≤ 1 = h.reserved.apart i in omega arith;
-}) h
-  where
-    desk : Desk
-    desk = record (desk_at m actor) { reservation = None }
+kept-unreserved m actor h = kept-reservation m actor None (unreserved m actor (record (desk_at m actor) { reservation = None }) refl h) h
+
+-- ---- the whole desk
+
+-- a desk may always be emptied
+pub kept-empty : (m : State) (actor : ℕ) → IsWellFormed m → IsWellFormed (with_desk actor empty_desk m)
+kept-empty m actor h = kept-desk m actor empty_desk (record { reserved = unreserved m actor empty_desk refl h; seat = record { held = tt; batch = tt }; batch = tt }) h
 
 -- ---- its batch
 

@@ -12,7 +12,7 @@ use Rattle.ax_segments.specs.Segments.{Segment}
 use Rattle.ax_claims.specs.Rows.{TokenRow, row_at, put_row}
 use Rattle.ax_state.specs.Every.{AllFrom, count, one, option_or}
 use Rattle.ax_state.specs.Setting.{Setting, name_at, is_saga, whole_at, needs_no_gaps}
-use Rattle.ax_state.specs.State.{State, ProcessorState, Desk, Batch, desk_at, processor_state_at, empty_desk, empty_processor, actor_name, with_desk, with_cells, with_fence, with_rows}
+use Rattle.ax_state.specs.State.{State, ProcessorState, Desk, Batch, desk_at, processor_state_at, empty_desk, empty_processor, actor_name, with_desk, with_cells, with_clock, with_fence, with_rows}
 use Rattle.ax_state.specs.Positions.{first_letter, drops_of}
 use Rattle.ax_state.specs.Portions.{Portion, portions, covered_events}
 use Rattle.ax_state.specs.WellFormed.{IsWellFormed, AreReserved, HoldsCells, IsReservation, IsDeskOf, IsBatchIn, IsBatchAt, IsBatchRow, IsProcessorState, IsProcessorBy, IsFencedProcessor, IsOwnedRight, IsFolded, AreParts, AreTokens, IsTokenOver, TokenPrefix, HasRows, OwnsRow, OwnsAs, reserved_by, holds_cell, fence_count, has_no_gaps, has_no_replay}
@@ -29,7 +29,7 @@ reserved-later now later le (Cell.Reserved a s w t) h = omega arith
 reserved-later now later le Cell.Void h = tt
 reserved-later now later le (Cell.Event r) h = tt
 
-pub kept-clock : (m : State) (later : ℕ) → m.clock ≤ later → later ≤ 10 ^ 18 → IsWellFormed m → IsWellFormed (record m { clock = later })
+pub kept-clock : (m : State) (later : ℕ) → m.clock ≤ later → later ≤ 10 ^ 18 → IsWellFormed m → IsWellFormed (with_clock later m)
 kept-clock m later le limit h = record {
   sheet = h.sheet;
   log = h.log;

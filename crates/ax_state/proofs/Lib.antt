@@ -10,3 +10,6 @@ pub mod Fill
 pub mod SegmentCounts
 pub mod Starting
 pub mod Prefixes
+pub mod Collapsing
+pub mod Splits
+pub mod FreshRows

@@ -74,6 +74,9 @@ with_desk actor desk m = record m { desks = slice_set m.desks actor desk }
 abbrev pub with_cells : List Cell → State → State
 with_cells cells m = record m { cells = cells }
 
+abbrev pub with_clock : ℕ → State → State
+with_clock now m = record m { clock = now }
+
 abbrev pub with_fence : ℕ → State → State
 with_fence fence m = record m { fence = fence }
 

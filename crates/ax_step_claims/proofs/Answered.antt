@@ -1,30 +1,26 @@
 -- What a claim answers: a refusal changes nothing, and a grant leads to the state of the definition.
-use Rattle.std.proofs.Common.{◌≡◌, ℕ, suc, ◌+◌, ◌<◌, Bool, true, false, not, ◌&&◌, List, [], ◌∷◌, ◌++◌, length, Option, Some, None, Ok, Err, IsTrue, is_some, find, slice_get, if◌then◌else◌, refl, sym, ap, ap₂, ◌∙◌, subst, arith}
+use Rattle.std.proofs.Common.{◌≡◌, ℕ, suc, ◌+◌, ◌<◌, Bool, true, false, not, ◌&&◌, List, [], ◌∷◌, length, Option, Some, None, Ok, Err, IsTrue, is_some, find, slice_get, if◌then◌else◌, refl, sym, ap, ap₂, ◌∙◌, subst, arith}
 use Rattle.ax_values.specs.Grammar.{Name}
 use Rattle.ax_values.specs.Words.{place_where}
 use Rattle.ax_segments.specs.Segments.{Segment, same_segment}
 use Rattle.ax_claims.specs.Rows.{TokenRow, row_at, put_row}
 use Rattle.ax_claims.specs.Changes.{is_claimed, is_other, is_expired, owned, claimed_row, claimed as claimed_rows, IsChange}
 use Rattle.ax_claims.specs.declared.refused.Refused.{Refused}
-use Rattle.ax_claims.proofs.RowPlaces.{get-within}
-use Rattle.ax_state.specs.Every.{option_or}
-use Rattle.ax_state.specs.State.{State, ProcessorState, Desk, Held, processor_state_at, desk_at, empty_desk, actor_name, with_desk, with_fence, with_rows}
+use Rattle.ax_state.specs.State.{State, Desk, processor_state_at, desk_at, actor_name}
 use Rattle.ax_state.specs.Portions.{portions}
-use Rattle.ax_state.specs.WellFormed.{AreParts}
 use Rattle.ax_state.specs.Answer.{answer}
 use Rattle.ax_state.proofs.RowPuts.{portions-put}
 use Rattle.ax_state.proofs.Frames.{place-there, place-at}
-use Rattle.ax_world.specs.WorldTables.{WorldTables, state_of, processor_tables_at}
-use Rattle.ax_world.specs.EditsApplied.{edits_applied}
+use Rattle.ax_world.specs.WorldTables.{WorldTables, state_of, processor_tables_at, rows_at}
 use Rattle.ax_world.specs.Fits.{IsWorld}
 use Rattle.ax_world.specs.Moves.{IsMove}
-use Rattle.ax_world.proofs.StepMoves.{unmoved, moved}
-use Rattle.ax_world.proofs.ProcessorStates.{processor_state-place, state-rows, tables-rows}
+use Rattle.ax_world.proofs.StepMoves.{unmoved}
+use Rattle.ax_world.proofs.ProcessorStates.{processor_state-place}
 use Rattle.ax_world.specs.declared.edit.Edit.{Edit}
-use Rattle.ax_world.specs.declared.edit.Move.{Move}
 use Rattle.ax_journal.specs.declared.reply.Reply.{Reply}
 use Rattle.ax_step_claims.specs.Claiming.{claimed, claimed_reply, granted, hold_fence, found_reply, refused_reply, HasOwner, NamesOwned}
 use Rattle.ax_step_claims.proofs.ClaimKept.{kept-granted}
+use Rattle.ax_step_claims.proofs.Moves.{same-covers, rows-place, desk-move}
 
 -- ---- refusals
 
@@ -37,7 +33,7 @@ IsRefusal s actor now rows Refused.NotHeld = ⊥
 IsRefusal s actor now rows Refused.MaskFull = ⊥
 IsRefusal s actor now rows Refused.Alone = ⊥
 
-find-place : (t : TokenRow → Bool) (rows : List TokenRow) (r : TokenRow) → find t rows ≡ Some r → slice_get rows (place_where t rows) ≡ Some r
+pub find-place : (t : TokenRow → Bool) (rows : List TokenRow) (r : TokenRow) → find t rows ≡ Some r → slice_get rows (place_where t rows) ≡ Some r
 find-place t [] r e = absurd (cc)
 find-place t (x ∷ xs) r e = at (t x) e (find-place t xs r)
   where
@@ -59,7 +55,7 @@ refusal s actor now fence old new e h = by (row_at s old) refl h
         at true c h = (h.2, subst (IsRefusal s actor now old) (sym h.0) (r, find-place (λ x. same_segment x.segment s) old r k, k, c))
         at false c h = absurd h
 
-claimed-owner : (actor : Name) (o : Option Name) (b : Bool) → (is_other actor o && b) ≡ true → IsTrue (is_some o)
+pub claimed-owner : (actor : Name) (o : Option Name) (b : Bool) → (is_other actor o && b) ≡ true → IsTrue (is_some o)
 claimed-owner actor None b h = absurd (cc)
 claimed-owner actor (Some owner) b h = refl
 
@@ -113,53 +109,34 @@ grant s actor now fence old new u h = by (row_at s old) refl h
         at true c h = absurd h
         at false c h = record { row = r; found = k; free = c; rows_are = h }
 
-module _ (w : WorldTables) (actor p : ℕ) (s : Segment) (old : Desk) (row : TokenRow) where
+module _ (w : WorldTables) (actor p : ℕ) (s : Segment) (row : TokenRow) (h : IsWorld w) (lt : p < length w.processor_tables) (there : actor < length w.desks) (found : row_at s (processor_state_at (state_of w) p).rows ≡ Some row) where
+  abbrev m : State
+  m = state_of w
+
   abbrev after : List TokenRow
-  after = put_row (owned row (Some (actor_name (state_of w) actor)) w.clock (suc w.fence)) (processor_tables_at w p).processor_state.rows
+  after = put_row (owned row (Some (actor_name m actor)) w.clock (suc w.fence)) (processor_state_at m p).rows
 
   abbrev holding : Desk
-  holding = record old { held = hold_fence p s (suc w.fence) old.held }
+  holding = record (desk_at m actor) { held = hold_fence p s (suc w.fence) (desk_at m actor).held }
 
-  abbrev changes : List Edit
-  changes = Edit.SetRows p after ∷ Edit.SetDesk actor holding ∷ Edit.Fence (suc w.fence) ∷ []
+  granted-move : is_claimed (actor_name m actor) w.clock row ≡ false → IsMove w (claimed m actor p s (row_at s (processor_state_at m p).rows))
+      (record { edits = Edit.SetRows p after ∷ Edit.Fence (suc w.fence) ∷ Edit.SetDesk actor holding ∷ []; reply = Reply.Fenced (suc w.fence); report = [] })
+  granted-move free =
+      let a : claimed m actor p s (row_at s (processor_state_at m p).rows) ≡ granted m actor p s row =
+      ap (claimed m actor p s) found ∙ ap (λ b. if b then answer m (claimed_reply row row.owner) else granted m actor p s row) free
+      in
+      subst (λ x. IsMove w x (record { edits = Edit.SetRows p after ∷ Edit.Fence (suc w.fence) ∷ Edit.SetDesk actor holding ∷ []; reply = Reply.Fenced (suc w.fence); report = [] })) (sym a)
+      (desk-move w p after (granted m actor p s row) (Reply.Fenced (suc w.fence)) h lt
+      (same-covers (portions (processor_state_at m p).rows) (portions after)
+      (portions-put s (processor_state_at m p).rows row (owned row (Some (actor_name m actor)) w.clock (suc w.fence)) (place-at m p (place-there m p s row found) h.state).parts found refl refl))
+      (kept-granted m actor p s row found h.state) refl refl (suc w.fence) actor holding there refl)
 
-  abbrev granted_to : Desk → List TokenRow → State → State
-  granted_to d rs m = with_fence (suc w.fence) (with_desk actor d (with_rows p rs m))
-
-  state-granted : slice_get w.desks actor ≡ Some old → state_of (edits_applied changes w) ≡ (granted (state_of w) actor p s row).state
-  state-granted at =
-      let is : desk_at (state_of w) actor ≡ old = ap (option_or empty_desk) at in
-      ap (λ (m : State). with_fence (suc w.fence) (with_desk actor holding m)) (state-rows w p after)
-      ∙ ap (λ (x : ProcessorState). granted_to holding (put_row (owned row (Some (actor_name (state_of w) actor)) w.clock (suc w.fence)) x.rows) (state_of w)) (sym (processor_state-place w p))
-      ∙ ap (λ (d : Desk). granted_to (record d { held = hold_fence p s (suc w.fence) d.held }) (put_row (owned row (Some (actor_name (state_of w) actor)) w.clock (suc w.fence)) (processor_state_at (state_of w) p).rows) (state_of w)) (sym is)
-
-  module _ (h : IsWorld w) (lt : p < length w.processor_tables) (found : row_at s (processor_tables_at w p).processor_state.rows ≡ Some row) where
-    found-there : row_at s (processor_state_at (state_of w) p).rows ≡ Some row
-    found-there = ap (λ (x : ProcessorState). row_at s x.rows) (processor_state-place w p) ∙ found
-
-    same : portions after ≡ portions (processor_tables_at w p).processor_state.rows
-    same =
-        portions-put s (processor_tables_at w p).processor_state.rows row (owned row (Some (actor_name (state_of w) actor)) w.clock (suc w.fence))
-        (subst (λ (x : ProcessorState). AreParts (portions x.rows)) (processor_state-place w p) (place-at (state_of w) p (place-there (state_of w) p s row found-there) h.state).parts) found refl refl
-
-    granted-move : slice_get w.desks actor ≡ Some old → is_claimed (actor_name (state_of w) actor) w.clock row ≡ false
-        → IsMove w (claimed (state_of w) actor p s (row_at s (processor_state_at (state_of w) p).rows)) (record { edits = changes; reply = Reply.Fenced (suc w.fence); report = [] })
-    granted-move at free =
-        let a : claimed (state_of w) actor p s (row_at s (processor_state_at (state_of w) p).rows) ≡ granted (state_of w) actor p s row =
-        ap (claimed (state_of w) actor p s) found-there ∙ ap (λ b. if b then answer (state_of w) (claimed_reply row row.owner) else granted (state_of w) actor p s row) free
-        in
-        subst (λ x. IsMove w x (record { edits = changes; reply = Reply.Fenced (suc w.fence); report = [] })) (sym a)
-        (moved w changes (granted (state_of w) actor p s row) (Reply.Fenced (suc w.fence)) h (omega arith) (lt, (get-within w.desks actor old at, (tt, tt))) (state-granted at)
-        (kept-granted (state_of w) actor p s row found-there h.state) refl (tables-rows w p after lt same h.tables) refl refl)
-
-pub three : {A : Type 0} (a b c d : List A) (x y z : A) → a ≡ [] → b ≡ a ++ x ∷ [] → c ≡ b ++ y ∷ [] → d ≡ c ++ z ∷ [] → d ≡ x ∷ y ∷ z ∷ []
-three a b c d x y z h i j k = k ∙ ap (λ xs. xs ++ z ∷ []) (j ∙ ap (λ xs. xs ++ y ∷ []) (i ∙ ap (λ xs. xs ++ x ∷ []) h))
-
-pub claim-move : (w : WorldTables) (actor p : ℕ) (s : Segment) (now fence : ℕ) (owner : Name) (old new : List TokenRow) (was desk : Desk) (held : List Held) (move : Move) → IsWorld w → p < length w.processor_tables
-    → now ≡ w.clock → fence ≡ w.fence + 1 → owner ≡ actor_name (state_of w) actor → old ≡ (processor_tables_at w p).processor_state.rows → IsGrant owner now fence s old new → slice_get w.desks actor ≡ Some was
-    → held ≡ hold_fence p s fence was.held → desk ≡ record was { held = held } → move ≡ record { edits = Edit.SetRows p new ∷ Edit.SetDesk actor desk ∷ Edit.Fence fence ∷ []; reply = Reply.Fenced fence; report = [] }
-    → IsMove w (claimed (state_of w) actor p s (row_at s (processor_state_at (state_of w) p).rows)) move
-claim-move w actor p s now fence owner old new was desk held move h lt clock next name rows g at held_is desk_is is =
+pub claim-move : (w : WorldTables) (actor p : ℕ) (s : Segment) (now fence : ℕ) (owner : Name) (old new : List TokenRow) → IsWorld w → p < length w.processor_tables → actor < length w.desks
+    → now ≡ w.clock → fence ≡ w.fence + 1 → owner ≡ actor_name (state_of w) actor → old ≡ rows_at w p → IsGrant owner now fence s old new
+    → IsMove w (claimed (state_of w) actor p s (row_at s (processor_state_at (state_of w) p).rows))
+    (record { edits = Edit.SetRows p new ∷ Edit.Fence fence ∷ Edit.SetDesk actor (record (desk_at (state_of w) actor) { held = hold_fence p s fence (desk_at (state_of w) actor).held }) ∷ []; reply = Reply.Fenced fence; report = [] })
+claim-move w actor p s now fence owner old new h lt there clock next name rows g =
     let succ : fence ≡ suc w.fence = omega (arith, next) in
-    rw (is, desk_is, held_is, g.rows_are, name, clock, rows, succ)
-    (granted-move w actor p s was g.row h lt (ap (row_at s) (sym rows) ∙ g.found) at (ap₂ (λ n t. is_claimed n t g.row) (sym name) (sym clock) ∙ g.free))
+    let same : old ≡ (processor_state_at (state_of w) p).rows = rows ∙ sym (rows-place w p) in
+    rw (g.rows_are, name, clock, same, succ)
+    (granted-move w actor p s g.row h lt there (ap (row_at s) (sym same) ∙ g.found) (ap₂ (λ n t. is_claimed n t g.row) (sym name) (sym clock) ∙ g.free))

@@ -1,17 +1,19 @@
--- Steps on token rows: claim.
-use Rattle.std.specs.Prelude.{ℕ, suc, ◌<◌, not, List, [], ◌∷◌, ◌++◌, length, filter, Option, Some, None, IsTrue, is_some, slice_get, if◌then◌else◌}
+-- Steps on token rows: claim, extend, release, split and merge.
+use Rattle.std.specs.Prelude.{ℕ, suc, ◌/◌, ◌<◌, ◌==◌, not, List, [], ◌∷◌, ◌++◌, length, filter, Option, Some, None, IsTrue, is_some, min, slice_get, if◌then◌else◌}
 use Rattle.ax_values.specs.Grammar.{Name}
-use Rattle.ax_segments.specs.Segments.{Segment}
+use Rattle.ax_segments.specs.Segments.{Segment, lower_half, upper_half, max_mask, partner}
 use Rattle.ax_claims.specs.Rows.{TokenRow, row_at, put_row}
-use Rattle.ax_claims.specs.Changes.{is_claimed, owned}
+use Rattle.ax_claims.specs.Changes.{is_claimed, owned, split_rows, merge_rows, whole_row, partner_row}
 use Rattle.ax_state.specs.Setting.{processor_number}
 use Rattle.ax_state.specs.State.{State, Held, desk_at, processor_state_at, with_desk, with_rows, with_fence, actor_name}
 use Rattle.ax_state.specs.Answer.{Answer, answer}
-use Rattle.ax_world.specs.Holding.{is_held_at}
+use Rattle.ax_world.specs.Holding.{is_held_at, on_held_row}
 use Rattle.ax_claims.specs.declared.refused.Refused.{Refused}
 use Rattle.ax_journal.specs.declared.order.Order.{Order}
 use Rattle.ax_journal.specs.declared.reply.Reply.{Reply}
 use Rattle.ax_sheet.specs.Declarations.{Processor}
+use Rattle.ax_world.specs.declared.edit.Edit.{Edit}
+use Rattle.ax_world.specs.declared.edit.Move.{Move}
 
 abbrev pub claimed_reply : TokenRow → Option Name → Reply
 claimed_reply r None = Reply.Claimed [] r.since
@@ -41,6 +43,65 @@ claimed m actor p s (Some r) = if is_claimed (actor_name m actor) m.clock r then
 
 abbrev pub claim : State → ℕ → Name → Segment → Answer
 claim m actor name s = claimed m actor (processor_number m.setting.processors name) s (row_at s (processor_state_at m (processor_number m.setting.processors name)).rows)
+
+-- ---- extend and release
+
+-- the row with the clock's time: owner and fence stay
+abbrev pub extended : State → ℕ → TokenRow → Answer
+extended m p r = answer (with_rows p (put_row (owned r r.owner m.clock r.fence) (processor_state_at m p).rows) m) (Reply.Now m.clock)
+
+abbrev pub extend_at : State → ℕ → ℕ → Segment → Answer
+extend_at m actor p s = on_held_row m actor p s (extended m p)
+
+abbrev pub extend : State → ℕ → Name → Segment → Answer
+extend m actor name s = extend_at m actor (processor_number m.setting.processors name) s
+
+-- the row without owner under a fresh fence, and the desk lets go of the segment
+abbrev pub released : State → ℕ → ℕ → Segment → TokenRow → Answer
+released m actor p s r =
+    answer (with_fence (suc m.fence) (with_held actor (let_go p s (desk_at m actor).held) (with_rows p (put_row (owned r None 0 (suc m.fence)) (processor_state_at m p).rows) m))) Reply.Done
+
+abbrev pub release_at : State → ℕ → ℕ → Segment → Answer
+release_at m actor p s = on_held_row m actor p s (released m actor p s)
+
+abbrev pub release : State → ℕ → Name → Segment → Answer
+release m actor name s = release_at m actor (processor_number m.setting.processors name) s
+
+-- ---- split and merge
+
+-- What desks hold of the rows that go, they go on holding: it is stale.
+
+-- the rows of the two halves in the place of the row, without owner, under the next two fences, the lower one's first
+abbrev pub halved : State → ℕ → Segment → TokenRow → Answer
+halved m p s r = answer (with_fence (suc (suc m.fence)) (with_rows p (split_rows r (suc m.fence) (processor_state_at m p).rows) m)) (Reply.Halves (lower_half s) (upper_half s))
+
+abbrev pub split_row : State → ℕ → Segment → TokenRow → Answer
+split_row m p s r = if s.mask == max_mask then answer m Reply.MaskFull else halved m p s r
+
+abbrev pub split_at : State → ℕ → ℕ → Segment → Answer
+split_at m actor p s = on_held_row m actor p s (split_row m p s)
+
+abbrev pub split : State → ℕ → Name → Segment → Answer
+split m actor name s = split_at m actor (processor_number m.setting.processors name) s
+
+-- one row in the place of the two, without owner, under a fresh fence, with both tokens
+abbrev pub joined : State → ℕ → TokenRow → TokenRow → Answer
+joined m p r q = answer (with_fence (suc m.fence) (with_rows p (merge_rows r q (suc m.fence) (processor_state_at m p).rows) m)) (Reply.Merged (whole_row r q (suc m.fence)).segment)
+
+-- the row with that of its partner, where there is one
+abbrev pub merged_with : State → ℕ → ℕ → TokenRow → Option TokenRow → Answer
+merged_with m actor p r None = answer m Reply.Alone
+merged_with m actor p r (Some q) = if is_claimed (actor_name m actor) m.clock q then answer m (claimed_reply q q.owner) else joined m p r q
+
+abbrev pub merge_at : State → ℕ → ℕ → Segment → Answer
+merge_at m actor p s = on_held_row m actor p s (λ r. merged_with m actor p r (partner_row (partner s) (processor_state_at m p).rows))
+
+abbrev pub merge : State → ℕ → Name → Segment → Answer
+merge m actor name s = merge_at m actor (processor_number m.setting.processors name) s
+
+-- the rows and the fence are put, and the reply names the segment that is cut into both
+abbrev pub merged_move : ℕ → List TokenRow → ℕ → Segment → Segment → Move
+merged_move p rows fence s other = record { edits = Edit.SetRows p rows ∷ Edit.Fence fence ∷ []; reply = Reply.Merged (record { id = min s.id other.id; mask = s.mask / 2 }); report = [] }
 
 -- ---- refusals
 
@@ -75,14 +136,26 @@ NamesOwned rows Refused.Alone = Unit {0}
 -- the orders of this crate
 abbrev pub IsClaiming : Order → Type 0
 IsClaiming (Order.Claim processor segment) = Unit {0}
+IsClaiming (Order.Extend processor segment) = Unit {0}
+IsClaiming (Order.Release processor segment) = Unit {0}
+IsClaiming (Order.Split processor segment) = Unit {0}
+IsClaiming (Order.Merge processor segment) = Unit {0}
 IsClaiming order = ⊥
 
 -- the processor that the order names is declared
 abbrev pub IsDeclared : List Processor → Order → Type 0
 IsDeclared processors (Order.Claim processor segment) = processor_number processors processor < length processors
+IsDeclared processors (Order.Extend processor segment) = processor_number processors processor < length processors
+IsDeclared processors (Order.Release processor segment) = processor_number processors processor < length processors
+IsDeclared processors (Order.Split processor segment) = processor_number processors processor < length processors
+IsDeclared processors (Order.Merge processor segment) = processor_number processors processor < length processors
 IsDeclared processors order = Unit {0}
 
 -- of an order of this crate
 abbrev pub step : State → ℕ → (order : Order) → IsClaiming order → Answer
 step m actor (Order.Claim processor segment) kind = claim m actor processor segment
+step m actor (Order.Extend processor segment) kind = extend m actor processor segment
+step m actor (Order.Release processor segment) kind = release m actor processor segment
+step m actor (Order.Split processor segment) kind = split m actor processor segment
+step m actor (Order.Merge processor segment) kind = merge m actor processor segment
 step m actor order kind = absurd kind

@@ -5,12 +5,13 @@ ghost use Rattle.ax_world.specs.WorldTables.{state_of};
 ghost use Rattle.ax_world.specs.Moves.{IsMove};
 ghost use Rattle.ax_step_claims.specs.Claiming.{claimed};
 
+use crate::edits::desk_edits;
 use crate::fences::hold_fence;
-use crate::refusals::refused_reply;
+use crate::refusals::refusal;
 use ax_journal::Reply;
 use ax_segments::Segment;
 use ax_values::{Duplicate, NoMemory};
-use ax_world::{Edit, Edits, Held, Move, World};
+use ax_world::{Held, Move, World};
 use std::alloc::Global;
 
 /// Gives the actor the segment of the processor, under a fresh fence.
@@ -31,20 +32,14 @@ pub(crate) fn claim_segment(
     let owner = world.actor_name(actor).copy(alloc)?;
     let mut rows = world.rows(processor).copy(alloc)?;
     if let Err((refused, _owner)) = rows.claim(segment, owner, now, fence) {
-        let reply = refused_reply(alloc, rows.rows(), refused)?;
-        return Ok(Move::without_edits(alloc, reply));
+        return refusal(alloc, &rows, refused);
     }
-    let desk = world.desk(actor);
     let fresh = Held {
         processor,
         segment,
         fence,
     };
-    let held = hold_fence(alloc, desk.held.parts(), fresh)?;
-    let desk = desk.with_held(alloc, held)?;
-    let mut edits = Edits::new(alloc);
-    edits.push(Edit::SetRows { processor, rows })?;
-    edits.push(Edit::SetDesk { actor, desk })?;
-    edits.push(Edit::Fence(fence))?;
+    let held = hold_fence(alloc, world.desk(actor).held.parts(), fresh)?;
+    let edits = desk_edits(alloc, world, actor, processor, rows, held, fence)?;
     Ok(Move::of(alloc, edits, Reply::Fenced { fence }))
 }

@@ -1,9 +1,10 @@
-ghost use Rattle.std.specs.Prelude.{◌≡◌, IfOk, IsTrue, is_some};
+ghost use Rattle.std.specs.Prelude.{◌≡◌, [], IfOk, IsTrue, is_some};
 ghost use Rattle.ax_step_claims.specs.Claiming.{claimed_reply, refused_reply, NamesOwned};
 
-use ax_claims::{Refused, TokenRow};
+use ax_claims::{Refused, Rows, TokenRow};
 use ax_journal::Reply;
 use ax_values::{Duplicate, NoMemory};
+use ax_world::Move;
 use std::alloc::Global;
 
 /// By whom, and since when, the row is claimed.
@@ -21,11 +22,7 @@ fn claimed_reply(alloc: Global, row: &TokenRow) -> Result<Reply, NoMemory>
 }
 
 /// The reply to a refusal, which names one of the rows by its place.
-pub(crate) fn refused_reply(
-    alloc: Global,
-    rows: &[TokenRow],
-    refused: Refused,
-) -> Result<Reply, NoMemory>
+fn refused_reply(alloc: Global, rows: &[TokenRow], refused: Refused) -> Result<Reply, NoMemory>
     requires { NamesOwned rows.now refused }
     ensures { IfOk result (λ reply. reply ≡ refused_reply rows.now refused) }
 {
@@ -37,4 +34,13 @@ pub(crate) fn refused_reply(
         Refused::MaskFull => Ok(Reply::MaskFull),
         Refused::Alone => Ok(Reply::Alone),
     }
+}
+
+/// Changes nothing, and says why.
+pub(crate) fn refusal(alloc: Global, rows: &Rows, refused: Refused) -> Result<Move, NoMemory>
+    requires { NamesOwned rows.now refused }
+    ensures { IfOk result (λ made. made ≡ record { edits = []; reply = refused_reply rows.now refused; report = [] }) }
+{
+    let reply = refused_reply(alloc, rows.rows(), refused)?;
+    Ok(Move::without_edits(alloc, reply))
 }

@@ -11,6 +11,7 @@ use Rattle.ax_tokens.proofs.Gaps.{canonical-plain_of}
 use Rattle.ax_tokens.proofs.Changes.{covers-advanced, covers-collapsed, is_collapsed-collapsed, collapsed-is}
 use Rattle.ax_laws.proofs.Tests.{both, and-left, and-right}
 use Rattle.ax_state.specs.WellFormed.{IsPlainOver, IsTokenOver, Advanced, with_added}
+use Rattle.ax_state.proofs.Collapsing.{token-collapsed}
 use Rattle.ax_state.proofs.Lists.{All-left, All-right, All-append, All-map}
 use Rattle.ax_values.specs.declared.cell.Cell.{Cell}
 
@@ -40,57 +41,15 @@ module _ (cells : List Cell) (b : ℕ) (le : b ≤ length cells) where
       (parts-over l (All-left (IsPlainOver cells) (parts l) (parts u) h)) (parts-over u (All-right (IsPlainOver cells) (parts l) (parts u) h))
   parts-over (replay r c) h = (h.0, (plain-over c h.1.0, tt))
 
-  joined-parts : (P : Plain → Type 0) (l u : Token) → AllByRecursion P (parts l) → AllByRecursion P (parts u) → AllByRecursion P (parts (joined l u))
-  joined-parts P l u h k = elim (joins l u) as (λ c. AllByRecursion P (parts (if c then l else merged l u))) [ true ↦ h | false ↦ All-append P (parts l) (parts u) h k ]
-
-  caught-parts : (P : Plain → Type 0) (r c : Plain) → P r → P c → AllByRecursion P (parts (caught_up r c))
-  caught-parts P r c h k = elim (includes c r) as (λ d. AllByRecursion P (parts (if d then plain c else replay r c))) [ true ↦ (k, tt) | false ↦ (h, (k, tt)) ]
-
-  collapsed-parts : (P : Plain → Type 0) (t : Token) → AllByRecursion P (parts t) → AllByRecursion P (parts (collapsed t))
-  collapsed-parts P (plain p) h = h
-  collapsed-parts P (merged l u) h =
-      joined-parts P (collapsed l) (collapsed u) (collapsed-parts P l (All-left P (parts l) (parts u) h)) (collapsed-parts P u (All-right P (parts l) (parts u) h))
-  collapsed-parts P (replay r c) h = caught-parts P r c h.0 h.1.0
-
-  -- ---- gaps and masks
-
-  collapsed-gaps : (t : Token) → gaps_fit t ≡ true → gaps_fit (collapsed t) ≡ true
-  collapsed-gaps (plain p) h = h
-  collapsed-gaps (merged l u) h = at (joins (collapsed l) (collapsed u)) (collapsed-gaps l (both (gaps_fit l) (gaps_fit u) h).0) (collapsed-gaps u (both (gaps_fit l) (gaps_fit u) h).1)
-    where
-      at : (c : Bool) → gaps_fit (collapsed l) ≡ true → gaps_fit (collapsed u) ≡ true → gaps_fit (if c then collapsed l else merged (collapsed l) (collapsed u)) ≡ true
-      at true x y = x
-      at false x y = rw x y
-  collapsed-gaps (replay r c) h = elim (includes c r) as (λ d. gaps_fit (if d then plain c else replay r c) ≡ true) [ true ↦ (both (nat_le (length r.gaps) max_gaps) (nat_le (length c.gaps) max_gaps) h).1 | false ↦ h ]
+  -- ---- masks
 
   advanced-masks : (t : Token) (mask : ℕ) → masks_fit mask (advanced cells b t) ≡ masks_fit mask t
   advanced-masks (plain p) mask = refl
   advanced-masks (merged l u) mask = ap (λ c. c && masks_fit (half_mask mask) (advanced cells b u)) (advanced-masks l (half_mask mask)) ∙ ap (λ c. masks_fit (half_mask mask) l && c) (advanced-masks u (half_mask mask))
   advanced-masks (replay r c) mask = refl
 
-  higher : (mask : ℕ) → nat_le (half_mask mask) max_mask ≡ true → nat_le mask max_mask ≡ true
-  higher mask h = grind (arith, nat_tests)
-
-  joined-masks : (mask : ℕ) (l u : Token) (c : Bool) → joins l u ≡ c → masks_fit (half_mask mask) l ≡ true → masks_fit (half_mask mask) u ≡ true → masks_fit mask (if c then l else merged l u) ≡ true
-  joined-masks mask l u false e h k = rw h k
-  joined-masks mask (plain p) u true e h k = higher mask h
-  joined-masks mask (merged x y) u true e h k = absurd (cc)
-  joined-masks mask (replay r c) u true e h k = higher mask h
-
-  collapsed-masks : (t : Token) (mask : ℕ) → masks_fit mask t ≡ true → masks_fit mask (collapsed t) ≡ true
-  collapsed-masks (plain p) mask h = h
-  collapsed-masks (merged l u) mask h =
-      let k = both (masks_fit (half_mask mask) l) (masks_fit (half_mask mask) u) h in
-      joined-masks mask (collapsed l) (collapsed u) (joins (collapsed l) (collapsed u)) refl (collapsed-masks l (half_mask mask) k.0) (collapsed-masks u (half_mask mask) k.1)
-  collapsed-masks (replay r c) mask h = elim (includes c r) as (λ d. masks_fit mask (if d then plain c else replay r c) ≡ true) [ true ↦ h | false ↦ h ]
-
   pub token-advanced : (mask : ℕ) (t : Token) → IsTokenOver cells mask t → gaps_fit (advanced cells b t) ≡ true → IsTokenOver cells mask (collapsed (advanced cells b t))
-  token-advanced mask t h few = record {
-    each = collapsed-parts (IsPlainOver cells) (advanced cells b t) (parts-over t h.each);
-    masks = collapsed-masks (advanced cells b t) mask (advanced-masks t mask ∙ h.masks);
-    gaps = collapsed-gaps (advanced cells b t) few;
-    stays = collapsed-is (collapsed (advanced cells b t)) (is_collapsed-collapsed (advanced cells b t));
-  }
+  token-advanced mask t h few = token-collapsed cells mask (advanced cells b t) (parts-over t h.each) (advanced-masks t mask ∙ h.masks) few
 
   -- ---- the cells that are added
 

@@ -21,7 +21,8 @@ use Rattle.ax_state.proofs.RowPuts.{found-row, All-rows}
 use Rattle.ax_state.proofs.Coverage.{prefix-here}
 use Rattle.ax_state.proofs.Frames.{seat-at, place-there, place-at}
 use Rattle.ax_state.proofs.Desks.{kept-batch, batch-here}
-use Rattle.ax_world.specs.Holding.{is_held_at, held_fence, held_check, checked}
+use Rattle.ax_world.specs.Holding.{held_fence}
+use Rattle.ax_world.proofs.HeldFences.{held-owned, kept-on_held_row}
 use Rattle.ax_step_work.specs.Working.{is_new, new_below, is_fetchable, largest, fetch_limit, fetch_bound, batch_of, fetched, fetch_at}
 use Rattle.ax_step_work.proofs.Advancing.{token-advanced, advance-adds, advanced-none}
 use Rattle.ax_step_work.proofs.Bounds.{limit-within}
@@ -42,29 +43,6 @@ largest-passes test (suc n) h = largest-by (test (suc n)) test n refl (largest-p
 pub largest-within : (test : ℕ → Bool) (n : ℕ) → largest test n ≤ n
 largest-within test zero = omega arith
 largest-within test (suc n) = elim (test (suc n)) as (λ b. (if b then suc n else largest test n) ≤ suc n) [ true ↦ omega arith | false ↦ (let ih : largest test n ≤ n = largest-within test n in omega arith) ]
-
--- ---- the fence that is held
-
-held-by : (P : Held → Type 0) (p : ℕ) (s : Segment) (b : Bool) (x : Held) (hs : List Held) (f : ℕ) → is_held_at p s x ≡ b → option_map (λ h. h.fence) (if b then Some x else find (is_held_at p s) hs) ≡ Some f
-    → P x → ((held_fence p s hs ≡ Some f) → (h : Held) × P h × (is_held_at p s h ≡ true) × (h.fence ≡ f)) → (h : Held) × P h × (is_held_at p s h ≡ true) × (h.fence ≡ f)
-held-by P p s true x hs f e k px again = (x, px, e, (let same : x.fence ≡ f = cc in same))
-held-by P p s false x hs f e k px again = again k
-
-held-found : (P : Held → Type 0) (p : ℕ) (s : Segment) (hs : List Held) (f : ℕ) → held_fence p s hs ≡ Some f → AllByRecursion P hs → (h : Held) × P h × (is_held_at p s h ≡ true) × (h.fence ≡ f)
-held-found P p s [] f e all = absurd (cc)
-held-found P p s (x ∷ hs) f e all = held-by P p s (is_held_at p s x) x hs f refl e all.0 (λ k. held-found P p s hs f k all.1)
-
--- what is known of a fence that a desk holds for a segment
-pub owned : (fence : ℕ) (processor_states : List ProcessorState) (actor : Name) (desk : Desk) (p : ℕ) (s : Segment) (f : ℕ) → IsDeskOf fence processor_states actor desk → held_fence p s desk.held ≡ Some f → (f ≤ fence) × OwnsAs actor processor_states p s f
-owned fence processor_states actor desk p s f seat e =
-    let found = held-found (λ h. (h.fence ≤ fence) × OwnsAs actor processor_states h.processor h.segment h.fence) p s desk.held f e seat.held in
-    let b = both (found.0.processor == p) (same_segment found.0.segment s) found.2 in
-    let is_p : found.0.processor ≡ p = grind (arith, nat_tests, b.0) in
-    let is_s : found.0.segment ≡ s = same-segment found.0.segment s b.1 in
-    let known : (found.0.fence ≤ fence) × OwnsAs actor processor_states found.0.processor found.0.segment found.0.fence = found.1 in
-    subst (λ g. (g ≤ fence) × OwnsAs actor processor_states p s g) found.3
-    (subst (λ t. (found.0.fence ≤ fence) × OwnsAs actor processor_states p t found.0.fence) is_s
-    (subst (λ q. (found.0.fence ≤ fence) × OwnsAs actor processor_states q found.0.segment found.0.fence) is_p known))
 
 -- ---- the batch
 
@@ -142,21 +120,10 @@ module _ (m : State) (actor p : ℕ) (s : Segment) (most : ℕ) (r : TokenRow) (
 
   pub kept-fetched : IsTrue (is_projection m.setting p) → held_fence p s (desk_at m actor).held ≡ Some r.fence → IsWellFormed (fetched m actor b).state
   kept-fetched projection held =
-      kept-batch m actor (Some b) (owned m.fence m.processor_states (actor_name m actor) (desk_at m actor) p s r.fence (seat-at m actor h) held)
+      kept-batch m actor (Some b) (held-owned m.fence m.processor_states (actor_name m actor) (desk_at m actor) p s r.fence (seat-at m actor h) held)
       (record { declared = projection; rows = batch-here m b r found (standing projection) h }) h
 
 -- ---- the step
 
-kept-checked : (m : State) (actor p : ℕ) (s : Segment) (most : ℕ) → IsTrue (is_projection m.setting p) → IsWellFormed m → (o : Option ℕ) → held_fence p s (desk_at m actor).held ≡ o
-    → (x : Option TokenRow) → row_at s (processor_state_at m p).rows ≡ x → IsWellFormed (checked m (held_check o x) x (λ r. fetched m actor (batch_of m p s most r))).state
-kept-checked m actor p s most projection h None e None f = h
-kept-checked m actor p s most projection h None e (Some r) f = h
-kept-checked m actor p s most projection h (Some g) e None f = h
-kept-checked m actor p s most projection h (Some g) e (Some r) f = by (r.fence == g) refl
-  where
-    by : (c : Bool) → (r.fence == g) ≡ c → IsWellFormed (checked m (if c then None else Some (Reply.Stale g (Some r.fence))) (Some r) (λ r. fetched m actor (batch_of m p s most r))).state
-    by false k = h
-    by true k = let same : g ≡ r.fence = grind (arith, nat_tests, k) in kept-fetched m actor p s most r f h projection (e ∙ ap Some same)
-
 pub kept-fetch : (m : State) (actor p : ℕ) (s : Segment) (most : ℕ) → IsTrue (is_projection m.setting p) → IsWellFormed m → IsWellFormed (fetch_at m actor p s most).state
-kept-fetch m actor p s most projection h = kept-checked m actor p s most projection h (held_fence p s (desk_at m actor).held) refl (row_at s (processor_state_at m p).rows) refl
+kept-fetch m actor p s most projection h = kept-on_held_row m actor p s (λ r. fetched m actor (batch_of m p s most r)) h (λ r f held. kept-fetched m actor p s most r f h projection held)

@@ -78,9 +78,6 @@ refused-fetch w actor p s most o x refusal h e f k =
 
 -- ---- a row whose fence is held
 
-pub held-desk : (w : WorldTables) (actor p : ℕ) (s : Segment) (old : Desk) (held : List Held) (o : Option ℕ) → slice_get w.desks actor ≡ Some old → held ≡ old.held → o ≡ held_fence p s held → o ≡ held_fence p s (desk_at (state_of w) actor).held
-held-desk w actor p s old held o at is e = e ∙ ap (held_fence p s) (is ∙ sym (ap (λ x. (option_or empty_desk x).held) at))
-
 pub record IsHeldRow (w : WorldTables) (actor p : ℕ) (s : Segment) (most : ℕ) (row : TokenRow) : Type 0 where
   pub found : row_at row.segment (rows_at w p) ≡ Some row
   pub held : held_fence p row.segment (desk_at (state_of w) actor).held ≡ Some row.fence

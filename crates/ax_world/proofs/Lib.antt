@@ -4,3 +4,4 @@ pub mod Starts
 pub mod StepMoves
 pub mod ProcessorStates
 pub mod Projections
+pub mod HeldFences

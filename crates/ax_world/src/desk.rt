@@ -1,4 +1,5 @@
 ghost use Rattle.std.specs.Prelude.{◌≡◌, IfOk};
+ghost use Rattle.ax_state.specs.State.{empty_desk};
 ghost use Rattle.ax_world.specs.Holding.{is_held_at};
 
 use ax_segments::Segment;
@@ -136,6 +137,17 @@ impl Duplicate for Desk {
 }
 
 impl Desk {
+    /// A desk that holds nothing.
+    pub fn empty(alloc: Global) -> Desk
+        ensures { result ≡ empty_desk }
+    {
+        Desk {
+            held: HeldList::new(alloc),
+            reservation: None,
+            batch: None,
+        }
+    }
+
     /// A copy with another reservation.
     pub fn with_reservation(
         &self,

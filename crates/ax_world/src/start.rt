@@ -5,8 +5,8 @@ ghost use Rattle.ax_sheet.specs.Declarations.{most_processors, is_segment_count}
 ghost use Rattle.ax_state.specs.State.{empty_desk, first_processors, row_count};
 ghost use Rattle.ax_world.specs.WorldTables.{bare};
 
+use crate::Desk;
 use crate::place::ProcessorTables;
-use crate::{Desk, HeldList};
 use ax_claims::Rows;
 use ax_projections::Table;
 use ax_sheet::Processor;
@@ -60,11 +60,7 @@ pub(crate) fn empty_desks(alloc: Global, actors: &[Name]) -> Result<Vec<Desk>, N
 {
     let mut desks = Vec::with_capacity(alloc, actors.len())?;
     for _ in actors {
-        desks.push(Desk {
-            held: HeldList::new(alloc),
-            reservation: None,
-            batch: None,
-        })?;
+        desks.push(Desk::empty(alloc))?;
     }
     Ok(desks)
 }

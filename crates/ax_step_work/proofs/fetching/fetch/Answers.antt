@@ -5,7 +5,8 @@ use Rattle.ax_claims.specs.Rows.{row_at}
 use Rattle.ax_state.specs.State.{ProcessorState, Desk}
 use Rattle.ax_world.specs.Moves.{IsMove}
 use Rattle.ax_world.proofs.ProcessorStates.{processor_state-place}
-use Rattle.ax_step_work.proofs.Fetches.{refused-fetch, held-row, held-desk}
+use Rattle.ax_world.proofs.HeldFences.{held-desk}
+use Rattle.ax_step_work.proofs.Fetches.{refused-fetch, held-row}
 use Rattle.ax_step_work.proofs.fetching.fetch.Goals as goal
 
 pub returns-in-Some : goal.returns-in-Some
