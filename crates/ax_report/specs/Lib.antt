@@ -1,1 +1,3 @@
+pub mod TokenReports
+pub mod LogReports
 pub mod Reports

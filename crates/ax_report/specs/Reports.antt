@@ -1,5 +1,5 @@
 -- Reports: the rows that a processor shows, and the text of a rebuild.
-use Rattle.std.specs.Prelude.{◌≡◌, ℕ, suc, Bool, true, false, List, [], ◌∷◌, ◌++◌, map, Option, Some, None, IsTrue, codes}
+use Rattle.std.specs.Prelude.{◌≡◌, ℕ, suc, ◌<◌, Bool, true, false, List, [], ◌∷◌, ◌++◌, map, length, Option, Some, None, IsTrue, codes}
 use Rattle.std.specs.List.{IsDistinct}
 use Rattle.std.specs.List.Sorted.{IsPermutation, IsSorted}
 use Rattle.std.specs.Fmt.{decimal, signed_decimal}
@@ -13,6 +13,8 @@ use Rattle.ax_state.specs.State.{State}
 use Rattle.ax_state.specs.Positions.{Shown, rows_of, rebuilt_rows}
 use Rattle.ax_state.specs.Answer.{Answer, reported}
 use Rattle.ax_journal.specs.Entries.{ended}
+use Rattle.ax_report.specs.TokenReports.{tokens_report}
+use Rattle.ax_report.specs.LogReports.{log_report}
 use Rattle.ax_rules.specs.declared.rules.Initial.{Initial}
 use Rattle.ax_projections.specs.declared.table.Positioned.{Positioned}
 use Rattle.ax_journal.specs.declared.order.Order.{Order}
@@ -82,7 +84,7 @@ pub record AreNames (table : List Entry) (names : List Name) : Type 0 where
   pub sorted : IsSorted name_cmp names
   pub distinct : IsDistinct same_name (map (λ e. e.name) table)
 
--- lines of the rows under the names of a table in order, behind older lines
+-- lines of the rows under the names of a table in order, after older lines
 pub record AddsRows (fields : List Initial) (table : List Entry) (old new : List Line) : Type 0 where
   pub names : List Name
   pub are : AreNames table names
@@ -93,14 +95,19 @@ pub record AddsRows (fields : List Initial) (table : List Entry) (old new : List
 -- the orders of this crate
 abbrev pub IsReport : Order → Type 0
 IsReport (Order.ShowRows processor) = Unit {0}
+IsReport (Order.ShowTokens processor) = Unit {0}
+IsReport Order.ShowLog = Unit {0}
 IsReport order = ⊥
 
--- the processor that the order names is one of a projection
+-- the processor that the order names is declared; where its rows are shown, it is one of a projection
 abbrev pub IsDeclared : Setting → Order → Type 0
 IsDeclared setting (Order.ShowRows processor) = IsTrue (is_projection setting (processor_number setting.processors processor))
+IsDeclared setting (Order.ShowTokens processor) = processor_number setting.processors processor < length setting.processors
 IsDeclared setting order = Unit {0}
 
 -- of an order of this crate
 abbrev pub step : State → ℕ → (order : Order) → IsReport order → Answer
 step m actor (Order.ShowRows processor) kind = reported m (rows_report m (processor_number m.setting.processors processor))
+step m actor (Order.ShowTokens processor) kind = reported m (tokens_report m (processor_number m.setting.processors processor))
+step m actor Order.ShowLog kind = reported m (log_report m)
 step m actor order kind = absurd kind

@@ -3,7 +3,6 @@ use Rattle.std.specs.Prelude.{◌≡◌, ℕ, zero, suc, ◌+◌, ◌-◌, ◌<�
 use Rattle.std.specs.List.{AllByRecursion}
 use Rattle.std.proofs.Common.{refl, ap, sym, ◌∙◌, subst, inl, inr, ⊎_elim, arith}
 use Rattle.std.proofs.lemmas.List.{length-map}
-use Rattle.std.proofs.lemmas.Option.{slice_get_within}
 use Rattle.std.proofs.lemmas.Bool.Decides.{nat_tests}
 use borrow.Author.Tests.{eqb-true, ltb-true, ltb-false}
 use Rattle.ax_values.specs.Grammar.{Name}
@@ -21,10 +20,10 @@ use Rattle.ax_state.specs.WellFormed.{IsWellFormed, IsReservation, IsHeldCell, H
 use Rattle.ax_state.proofs.Lists.{AllFrom-get, AllFrom-others, same-place}
 use Rattle.ax_state.proofs.Frames.{kept-cells}
 use Rattle.ax_state.proofs.Desks.{kept-unreserved}
-use Rattle.ax_state.proofs.Grow.{Grows, held-within, ordered-grows, kept-grown}
+use Rattle.ax_state.proofs.Grow.{held-within}
 use Rattle.ax_state.proofs.Fill.{Own, IsFill, fills-put, fill-growth, fills-reserved_by}
 use Rattle.ax_step_log.specs.Logging.{append, appended, appended_unless, released, with_reservation}
-use Rattle.ax_step_log.proofs.Released.{grows-released, length-released, reserved-released}
+use Rattle.ax_step_log.proofs.Released.{kept-voided}
 use Rattle.ax_values.specs.declared.cell.Cell.{Cell}
 use Rattle.ax_values.specs.declared.record.Record.{Record}
 use Rattle.ax_journal.specs.declared.reply.Reply.{Reply}
@@ -33,20 +32,8 @@ use Rattle.ax_journal.specs.declared.reply.Reply.{Reply}
 
 -- a desk lets its reservation go
 pub kept-released : (m : State) (actor : ℕ) (o : Option Reservation) → IsWellFormed m → IsWellFormed (with_reservation actor None (with_cells (released o m.cells) m))
-kept-released m actor o h = kept-unreserved (with_cells later m) actor (kept-grown m later g ordered (reserved-released m.clock o m.cells h.clock.reserved) h)
-  where
-    later : List Cell
-    later = released o m.cells
-
-    g : Grows m.cells later
-    g = grows-released o m.cells
-
-    same : length later ≡ length m.cells
-    same = length-released o m.cells
-
-    ordered : IsOrdered later
-    ordered = ordered-grows m.cells later g (let l : length later ≡ length m.cells = same in let k : length m.cells ≤ max_cells = h.log.size in omega arith)
-        (λ i a s w t e past. absurd (let lt : i < length later = slice_get_within later i (Cell.Reserved a s w t) e in let l : length later ≡ length m.cells = same in omega arith)) h.log
+kept-released m actor None h = kept-unreserved m actor h
+kept-released m actor (Some r) h = kept-unreserved (with_cells (released (Some r) m.cells) m) actor (kept-voided m r.first (length r.records) h)
 
 -- ---- the cells of a reservation
 

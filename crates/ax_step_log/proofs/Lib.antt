@@ -6,3 +6,4 @@ pub mod Items
 pub mod Releases
 pub mod Sends
 pub mod Appends
+pub mod OtherSteps

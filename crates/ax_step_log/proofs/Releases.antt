@@ -51,7 +51,7 @@ void-miss (Cell.Void ∷ cs) zero n e = refl
 void-miss (Cell.Event r ∷ cs) zero n e = refl
 void-miss (c ∷ cs) (suc i) n e = ap (λ xs. c ∷ xs) (void-miss cs i n e)
 
-put-voids : (n i : ℕ) (cells : List Cell) → put_all (void_puts cells i n) cells ≡ void_from i n cells
+pub put-voids : (n i : ℕ) (cells : List Cell) → put_all (void_puts cells i n) cells ≡ void_from i n cells
 put-voids zero i cells = sym (void-none i cells)
 put-voids (suc n) i cells = at (option_is is_reserved (slice_get cells i)) refl (put-voids n (suc i) (put i Cell.Void cells)) (put-voids n (suc i) cells)
   where

@@ -1,15 +1,15 @@
--- Steps on the log: send and append.
-use Rattle.std.specs.Prelude.{ℕ, zero, suc, ◌+◌, ◌==◌, List, [], ◌∷◌, ◌++◌, map, length, replicate, Option, Some, None, IsTrue, is_some, nat_lt, if◌then◌else◌}
+-- Steps on the clock, the log and a desk: tick, send, append, void, stop.
+use Rattle.std.specs.Prelude.{ℕ, zero, suc, ◌+◌, ◌^◌, ◌==◌, List, [], ◌∷◌, ◌++◌, map, length, replicate, Option, Some, None, IsTrue, is_some, min, nat_lt, slice_get, if◌then◌else◌}
 use Rattle.ax_values.specs.Grammar.{Name}
 use Rattle.ax_values.specs.Words.{Payload}
 use Rattle.ax_log.specs.Log.{length_of, put_cells}
 use Rattle.ax_log.specs.Order.{max_cells}
-use Rattle.ax_log.specs.Answers.{aggregate_of, void_among}
+use Rattle.ax_log.specs.Answers.{aggregate_of, void_among, void_period}
 use Rattle.ax_sheet.specs.Sheet.{Sheet, command_named}
 use Rattle.ax_sheet.specs.Commands.{Command}
 use Rattle.ax_sheet.specs.Decision.{decision}
 use Rattle.ax_state.specs.Every.{option_or}
-use Rattle.ax_state.specs.State.{State, Reservation, desk_at, with_desk, with_cells, actor_name}
+use Rattle.ax_state.specs.State.{State, Reservation, desk_at, empty_desk, with_desk, with_cells, with_clock, actor_name}
 use Rattle.ax_state.specs.Positions.{aggregate_state}
 use Rattle.ax_state.specs.Answer.{Answer, answer}
 use Rattle.ax_values.specs.declared.cell.Cell.{Cell}
@@ -18,6 +18,18 @@ use Rattle.ax_upcast.specs.declared.event.Event.{Event}
 use Rattle.ax_sheet.specs.declared.decision.Decided.{Decided}
 use Rattle.ax_journal.specs.declared.reply.Reply.{Reply}
 use Rattle.ax_journal.specs.declared.order.Order.{Order}
+
+-- ---- tick
+
+abbrev pub max_clock : ℕ
+max_clock = 10 ^ 18
+
+-- so many milliseconds later, at most the last moment
+abbrev pub later_by : ℕ → ℕ → ℕ
+later_by ms clock = min (clock + ms) max_clock
+
+abbrev pub tick : State → ℕ → Answer
+tick m ms = answer (with_clock (later_by ms m.clock) m) (Reply.Now (later_by ms m.clock))
 
 -- ---- reservations given up
 
@@ -92,12 +104,33 @@ appended m actor (Some r) = appended_unless m actor r (void_among m.cells r.firs
 abbrev pub append : State → ℕ → Answer
 append m actor = appended m actor (desk_at m actor).reservation
 
--- ---- both
+-- ---- void
+
+-- a cell that has been reserved for longer than the period becomes void
+abbrev pub voided_cell : State → ℕ → Option Cell → Answer
+voided_cell m i None = answer m Reply.NotReserved
+voided_cell m i (Some Cell.Void) = answer m Reply.NotReserved
+voided_cell m i (Some (Cell.Event r)) = answer m Reply.NotReserved
+voided_cell m i (Some (Cell.Reserved a s w at)) = if nat_lt (at + void_period) m.clock then answer (with_cells (void_from i 1 m.cells) m) (Reply.Voided i) else answer m (Reply.Young at)
+
+abbrev pub void : State → ℕ → Answer
+void m i = voided_cell m i (slice_get m.cells i)
+
+-- ---- stop
+
+-- the desk is empty; the cells that it had reserved stay reserved
+abbrev pub stop : State → ℕ → Answer
+stop m actor = answer (with_desk actor empty_desk m) Reply.Done
+
+-- ---- all
 
 -- the orders of this crate
 abbrev pub IsLogged : Order → Type 0
 IsLogged (Order.Send a command args) = Unit {0}
 IsLogged Order.Append = Unit {0}
+IsLogged (Order.Tick ms) = Unit {0}
+IsLogged (Order.Void cell) = Unit {0}
+IsLogged Order.Stop = Unit {0}
 IsLogged order = ⊥
 
 -- the sheet has the command that the order names
@@ -109,4 +142,7 @@ IsDeclared sheet order = Unit {0}
 abbrev pub step : State → ℕ → (order : Order) → IsLogged order → Answer
 step m actor (Order.Send a command args) kind = send m actor a command args
 step m actor Order.Append kind = append m actor
+step m actor (Order.Tick ms) kind = tick m ms
+step m actor (Order.Void cell) kind = void m cell
+step m actor Order.Stop kind = stop m actor
 step m actor order kind = absurd kind
