@@ -53,8 +53,8 @@ fn member_rows(alloc: Global, members: &[Member]) -> Result<Vec<Row>, NoMemory>
     Ok(rows)
 }
 
-/// The outcomes of the items of a share, which stand behind letters where it is parked. The members' rows become those after
-/// the applied items.
+/// The outcomes of the items of a share; where it is parked, they all wait for the letters before them. The members' rows become
+/// those after the applied items.
 fn outcomes(
     alloc: Global,
     rules: &Rules,

@@ -7,6 +7,8 @@
 mod fault;
 mod lines;
 mod parts;
+#[cfg(test)]
+mod tests;
 
 pub use fault::CaseFault;
 pub use lines::{Cases, perform_all};
