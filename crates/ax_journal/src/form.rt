@@ -94,13 +94,13 @@ const FORMS: [Form; 31] = each_order!(all_forms);
 /// Which forms are built, by their places.
 pub const BUILT: [bool; 31] = [
     // tick, send, append, void, snapshot, deliver
-    false, true, true, false, false, false,
+    true, true, true, true, false, false,
     // claim, extend, release, split, merge, reset
-    true, false, false, false, false, false,
+    true, true, true, true, true, false,
     // fetch, commit, take, settle, evict, policy, mark, heal, advance, stop
-    false, false, false, false, false, false, false, false, false, false,
+    true, true, false, false, false, false, false, false, false, true,
     // show rows, tokens, letters, sagas, log, sent
-    true, false, false, false, false, false,
+    true, true, false, false, true, false,
     // do, work, retry
     true, true, false,
 ];

@@ -1,18 +1,16 @@
 -- A machine along the schedule of its own plan.
-use Rattle.std.proofs.Common.{◌≡◌, ℕ, zero, suc, ◌+◌, ◌<◌, ◌≤◌, false, List, [], ◌∷◌, ◌++◌, length, map, take, get_or, Option, Some, None, IfSome, refl, ap, sym, ◌∙◌, subst, length-append, arith}
+use Rattle.std.proofs.Common.{◌≡◌, ℕ, ◌+◌, ◌<◌, ◌≤◌, false, List, [], ◌∷◌, ◌++◌, length, map, take, get_or, Option, IfSome, refl, ap, sym, ◌∙◌, subst, length-append, arith}
 use Rattle.std.proofs.Math.Seq.{take-length}
 use Rattle.std.proofs.lemmas.List.{map-append, take_more}
 use Rattle.std.proofs.lemmas.Option.{slice_get-get_or}
 use Rattle.ax_laws.proofs.Lists.{none-left, append-none}
-use Rattle.ax_values.specs.Grammar.{Name}
 use Rattle.ax_state.specs.Setting.{Setting, name_at}
-use Rattle.ax_state.specs.State.{State}
 use Rattle.ax_script.specs.Plans.{Plan}
 use Rattle.ax_script.specs.Queues.{queue_of, times_of}
 use Rattle.ax_world.specs.WorldTables.{state_of}
 use Rattle.ax_journal.specs.declared.entry.Entry.{Entry}
 use Rattle.ax_journal.specs.declared.order.Order.{Order}
-use Rattle.ax_machine.specs.Run.{Attempt, attempt, entry_of, entries, state_after_all, attempts, fails_at, no_faults, run_of, end_of, first_state, schedule_of, faults_of, orders_by, first_left}
+use Rattle.ax_machine.specs.Run.{attempt, entry_of, entries, state_after_all, attempts, fails_at, no_faults, run_of, end_of, first_state, schedule_of, faults_of, orders_by, first_left}
 use Rattle.ax_machine.specs.Machines.{MachineView, IsMachine}
 use Rattle.ax_machine.proofs.Schedules.{fits-at, stands-within, order-left}
 use Rattle.ax_machine.proofs.Left.{first-there}

@@ -1,5 +1,5 @@
 -- Names that are declared, where steps look them up.
-use Rattle.std.proofs.Common.{◌≡◌, ℕ, zero, suc, ◌<◌, Bool, true, false, not, ◌||◌, ◌&&◌, List, [], ◌∷◌, ◌++◌, length, map, Some, IsTrue, if◌then◌else◌, refl, ap, sym, ◌∙◌, subst, arith}
+use Rattle.std.proofs.Common.{◌≡◌, ℕ, zero, suc, ◌<◌, Bool, true, false, not, ◌||◌, ◌&&◌, List, [], ◌∷◌, ◌++◌, length, map, Some, IsTrue, if◌then◌else◌, refl, ap, sym, ◌∙◌, arith}
 use Rattle.std.specs.Prelude.{Option, None, is_some, slice_get}
 use Rattle.std.specs.List.{list_all, list_any}
 use Rattle.std.proofs.lemmas.Slice.Eq.{bytes_eq-Decides}
@@ -13,7 +13,7 @@ use Rattle.ax_sheet.specs.Commands.{Command}
 use Rattle.ax_sheet.specs.Sheet.{command_named}
 use Rattle.ax_sheet.specs.Declarations.{same_flag, names_differ, Processor}
 use Rattle.ax_state.specs.Setting.{Setting, IsSetting, processor_number, is_projection}
-use Rattle.ax_script.specs.Judging.{is_known, fits_found, has_processor}
+use Rattle.ax_script.specs.Judging.{is_known, is_processor, fits_found, has_processor}
 use Rattle.ax_script.specs.Queues.{queue_of, all_of}
 use Rattle.ax_journal.specs.declared.order.Order.{Order}
 use Rattle.ax_machine.specs.Run.{IsKnown}
@@ -75,9 +75,35 @@ pub known-send : (setting : Setting) (a c : Name) (args : Payload) → IsKnown s
 unfolding is_known
 known-send setting a c args h = known-command (command_named setting.sheet c) args h
 
-pub known-claim : (setting : Setting) (p : Name) (s : Segment) → IsKnown setting (Order.Claim p s) → processor_number setting.processors p < length setting.processors
+abbrev IsNumbered : Setting → Name → Type 0
+IsNumbered setting p = processor_number setting.processors p < length setting.processors
+
+known-processor : (setting : Setting) (p : Name) → is_processor setting.processors p ≡ true → IsNumbered setting p
+known-processor setting p h = place-within (λ q. same_name q.name p) setting.processors h
+
+pub known-claim : (setting : Setting) (p : Name) (s : Segment) → IsKnown setting (Order.Claim p s) → IsNumbered setting p
 unfolding is_known
-known-claim setting p s h = place-within (λ q. same_name q.name p) setting.processors h
+known-claim setting p s h = known-processor setting p h
+
+pub known-extend : (setting : Setting) (p : Name) (s : Segment) → IsKnown setting (Order.Extend p s) → IsNumbered setting p
+unfolding is_known
+known-extend setting p s h = known-processor setting p h
+
+pub known-release : (setting : Setting) (p : Name) (s : Segment) → IsKnown setting (Order.Release p s) → IsNumbered setting p
+unfolding is_known
+known-release setting p s h = known-processor setting p h
+
+pub known-split : (setting : Setting) (p : Name) (s : Segment) → IsKnown setting (Order.Split p s) → IsNumbered setting p
+unfolding is_known
+known-split setting p s h = known-processor setting p h
+
+pub known-merge : (setting : Setting) (p : Name) (s : Segment) → IsKnown setting (Order.Merge p s) → IsNumbered setting p
+unfolding is_known
+known-merge setting p s h = known-processor setting p h
+
+pub known-tokens : (setting : Setting) (p : Name) → IsKnown setting (Order.ShowTokens p) → IsNumbered setting p
+unfolding is_known
+known-tokens setting p h = known-processor setting p h
 
 pub known-fetch : (setting : Setting) (p : Name) (s : Segment) (n : ℕ) → IsSetting setting → IsKnown setting (Order.Fetch p s n) → IsTrue (is_projection setting (processor_number setting.processors p))
 unfolding is_known

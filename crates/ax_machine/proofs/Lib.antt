@@ -9,3 +9,4 @@ pub mod Along
 pub mod Reported
 pub mod AtHead
 pub mod RunsWellFormed
+pub mod ByKind

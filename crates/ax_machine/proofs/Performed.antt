@@ -1,7 +1,6 @@
 -- What a machine keeps: at its start, and after each order.
-use Rattle.std.proofs.Common.{◌≡◌, ℕ, zero, suc, ◌+◌, ◌*◌, ◌<◌, ◌≤◌, ◌^◌, ◌==◌, Bool, true, false, List, [], ◌∷◌, ◌++◌, length, map, filter, drop, Option, Some, None, IfSome, IsTrue, if◌then◌else◌, refl, ap, sym, ◌∙◌, subst, append_assoc, length-append, arith}
-use Rattle.std.specs.Prelude.{slice_get}
-use Rattle.std.specs.List.{AllByRecursion, list_all}
+use Rattle.std.proofs.Common.{◌≡◌, ℕ, zero, suc, ◌+◌, ◌*◌, ◌<◌, ◌≤◌, ◌^◌, ◌==◌, Bool, true, false, List, [], ◌∷◌, ◌++◌, length, map, drop, Option, Some, IfSome, if◌then◌else◌, refl, ap, sym, ◌∙◌, subst, append_assoc, length-append, arith}
+use Rattle.std.specs.List.{list_all}
 use Rattle.std.proofs.Math.Seq.{drop-append_seam}
 use Rattle.std.proofs.lemmas.Bool.Decides.{nat_tests}
 use Rattle.std.proofs.lemmas.List.{map-append, length-map}
@@ -11,7 +10,7 @@ use Rattle.ax_values.specs.Grammar.{Name}
 use Rattle.ax_values.specs.Words.{same_name}
 use Rattle.ax_sheet.specs.Declarations.{is_segment_count, Processor}
 use Rattle.ax_state.specs.Setting.{Setting, name_at}
-use Rattle.ax_state.specs.State.{State, row_count, actor_name}
+use Rattle.ax_state.specs.State.{State, row_count}
 use Rattle.ax_state.specs.WellFormed.{AreCommands}
 use Rattle.ax_script.specs.Judging.{is_known, actor_place}
 use Rattle.ax_script.specs.Plans.{Plan, IsPlan}
@@ -21,35 +20,11 @@ use Rattle.ax_state.proofs.SegmentCounts.{few_of_count}
 use Rattle.ax_world.proofs.Starts.{state-starting}
 use Rattle.ax_journal.specs.declared.entry.Entry.{Entry}
 use Rattle.ax_journal.specs.declared.order.Order.{Order}
-use Rattle.ax_machine.specs.Run.{
-  IsKnown,
-  IsPerformed,
-  Attempt,
-  step,
-  attempt,
-  entry_of,
-  entries,
-  state_after_all,
-  attempt_if,
-  next_order,
-  fails_at,
-  attempts,
-  run,
-  last_state,
-  setting_of,
-  first_state,
-  schedule_of,
-  is_fault,
-  faults_of,
-  orders_by,
-  first_of,
-  first_left,
-  left_after,
-}
+use Rattle.ax_machine.specs.Run.{IsKnown, IsPerformed, Attempt, step, attempt, entry_of, entries, state_after_all, attempt_if, next_order, fails_at, attempts, run, last_state, setting_of, first_state, schedule_of, is_fault, faults_of, orders_by, first_left, left_after}
 use Rattle.ax_machine.specs.Machines.{MachineView, ArePerformed, IsMachine}
 use Rattle.ax_machine.proofs.Known.{all-queued, queued-within}
 use Rattle.ax_machine.proofs.Names.{place-of, names-same}
-use Rattle.ax_machine.proofs.Stays.{Stays, stays}
+use Rattle.ax_machine.proofs.Stays.{stays}
 use Rattle.ax_machine.proofs.Left.{AreLeft, first-there, first-next, queue-there, left-own, left-other, left-actors, left-count}
 use Rattle.ax_machine.proofs.Runs.{entries-append, state-append, attempts-append, attempts-same, fails-more, fails-past, few-attempts, all-attempts, Leaves, leaves-all, orders-append, times-by}
 

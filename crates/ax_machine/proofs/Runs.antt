@@ -1,6 +1,5 @@
 -- Attempts in parts, what they leave of the setting and the counter of fences, and what a journal shows of them.
-use Rattle.std.proofs.Common.{◌≡◌, ℕ, zero, suc, ◌+◌, ◌*◌, ◌<◌, ◌≤◌, ◌^◌, ◌==◌, Bool, true, false, cond, List, [], ◌∷◌, ◌++◌, length, map, filter, drop, Option, Some, None, IsTrue, if◌then◌else◌, refl, ap, sym, ◌∙◌, append_assoc, arith}
-use Rattle.std.specs.Prelude.{slice_get}
+use Rattle.std.proofs.Common.{◌≡◌, ℕ, zero, suc, ◌+◌, ◌*◌, ◌<◌, ◌≤◌, ◌^◌, Bool, true, false, cond, List, [], ◌∷◌, ◌++◌, length, map, filter, Option, Some, None, IsTrue, if◌then◌else◌, refl, ap, sym, ◌∙◌, append_assoc, arith}
 use Rattle.std.specs.List.{AllByRecursion, list_all}
 use Rattle.std.proofs.lemmas.List.{map-append}
 use Rattle.std.proofs.lemmas.List.Elements.{filter-append}
@@ -11,9 +10,9 @@ use Rattle.ax_values.specs.Words.{same_name}
 use Rattle.ax_sheet.specs.Declarations.{names_differ}
 use Rattle.ax_state.specs.Setting.{name_at}
 use Rattle.ax_state.specs.State.{State}
-use Rattle.ax_state.specs.Answer.{Answer, answer}
+use Rattle.ax_state.specs.Answer.{answer}
 use Rattle.ax_script.specs.Judging.{actor_place}
-use Rattle.ax_script.specs.Queues.{queue_of, all_of, times_of, option_or}
+use Rattle.ax_script.specs.Queues.{all_of, times_of, option_or}
 use Rattle.ax_journal.specs.declared.entry.Entry.{Entry}
 use Rattle.ax_journal.specs.declared.order.Order.{Order}
 use Rattle.ax_journal.specs.declared.reply.Reply.{Reply}

@@ -1,5 +1,5 @@
 -- Every state of a plan's run is well formed, so what it shows is right.
-use Rattle.std.proofs.Common.{◌≡◌, ℕ, zero, suc, Bool, true, false, List, [], ◌∷◌, ◌++◌, take, Some, if◌then◌else◌, refl, sym, ◌∙◌, subst}
+use Rattle.std.proofs.Common.{◌≡◌, ℕ, zero, suc, Bool, true, false, List, [], ◌∷◌, take, Some, if◌then◌else◌, refl, sym, ◌∙◌, subst}
 use Rattle.std.specs.List.{AllByRecursion}
 use Rattle.ax_state.specs.Setting.{Setting, IsSetting}
 use Rattle.ax_state.specs.State.{State}
@@ -10,7 +10,8 @@ use Rattle.ax_script.specs.Judging.{is_known}
 use Rattle.ax_script.specs.Plans.{Plan, IsPlan}
 use Rattle.ax_step_log.proofs.SendKept.{kept-send}
 use Rattle.ax_step_log.proofs.AppendKept.{kept-append}
-use Rattle.ax_step_claims.proofs.ClaimKept.{kept-claim}
+use Rattle.ax_step_log.proofs.OtherSteps.{kept-tick, kept-void, kept-stop}
+use Rattle.ax_step_claims.proofs.StepKept.{kept-step as kept-claiming}
 use Rattle.ax_step_work.proofs.FetchKept.{kept-fetch}
 use Rattle.ax_step_work.proofs.CommitKept.{kept-commit}
 use Rattle.ax_journal.specs.declared.order.Order.{Order}
@@ -29,10 +30,19 @@ use Rattle.ax_machine.proofs.Reported.{reports}
 pub kept-step : (m : State) (k : ℕ) (o : Order) → IsSetting m.setting → IsKnown m.setting o → IsPerformed o → IsWellFormed m → IsWellFormed (step m k o).state
 kept-step m k (Order.Send a c args) s known performed h = kept-send m k a c args (known-send m.setting a c args known) h
 kept-step m k Order.Append s known performed h = kept-append m k h
-kept-step m k (Order.Claim p x) s known performed h = kept-claim m k p x h
+kept-step m k (Order.Claim p x) s known performed h = kept-claiming m k (Order.Claim p x) tt h
 kept-step m k (Order.Fetch p x most) s known performed h = kept-fetch m k _ x most (known-fetch m.setting p x most s known) h
 kept-step m k Order.Commit s known performed h = kept-commit m k s.actors.differ h
 kept-step m k (Order.ShowRows p) s known performed h = h
+kept-step m k (Order.Tick ms) s known performed h = kept-tick m ms h
+kept-step m k (Order.Void cell) s known performed h = kept-void m cell h
+kept-step m k Order.Stop s known performed h = kept-stop m k h
+kept-step m k (Order.Extend p x) s known performed h = kept-claiming m k (Order.Extend p x) tt h
+kept-step m k (Order.Release p x) s known performed h = kept-claiming m k (Order.Release p x) tt h
+kept-step m k (Order.Split p x) s known performed h = kept-claiming m k (Order.Split p x) tt h
+kept-step m k (Order.Merge p x) s known performed h = kept-claiming m k (Order.Merge p x) tt h
+kept-step m k (Order.ShowTokens p) s known performed h = h
+kept-step m k Order.ShowLog s known performed h = h
 kept-step m k order s known performed h = absurd (cc)
 
 kept-attempt : (m : State) (x : Attempt) → IsSetting m.setting → IsKnown m.setting x.order → IsPerformed x.order → IsWellFormed m → IsWellFormed (attempted m x).state

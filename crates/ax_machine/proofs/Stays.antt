@@ -1,22 +1,22 @@
 -- What a step leaves of the setting and of the counter of fences, and that no step itself replies that the keeper failed.
 use Rattle.std.proofs.Common.{◌≡◌, ℕ, suc, ◌+◌, ◌^◌, ◌<◌, Bool, true, false, [], Option, Some, None, IfSome, map, length, if◌then◌else◌, refl, arith}
-use Rattle.std.specs.Prelude.{◌==◌, nat_lt}
+use Rattle.std.specs.Prelude.{◌==◌, nat_lt, slice_get}
 use Rattle.ax_values.specs.Grammar.{Name}
 use Rattle.ax_log.specs.Log.{length_of, put_cells}
 use Rattle.ax_log.specs.Order.{max_cells}
-use Rattle.ax_log.specs.Answers.{aggregate_of, void_among}
-use Rattle.ax_segments.specs.Segments.{Segment}
+use Rattle.ax_log.specs.Answers.{aggregate_of, void_among, void_period}
+use Rattle.ax_segments.specs.Segments.{Segment, max_mask, partner}
 use Rattle.ax_claims.specs.Rows.{TokenRow, row_at}
-use Rattle.ax_claims.specs.Changes.{is_claimed}
+use Rattle.ax_claims.specs.Changes.{is_claimed, partner_row}
 use Rattle.ax_sheet.specs.Decision.{decision}
 use Rattle.ax_state.specs.Setting.{processor_number, projection_at}
 use Rattle.ax_state.specs.State.{State, Reservation, Batch, desk_at, processor_state_at, actor_name, with_cells}
 use Rattle.ax_state.specs.Positions.{aggregate_state}
-use Rattle.ax_world.specs.Holding.{checked, held_check, held_fence}
+use Rattle.ax_world.specs.Holding.{checked, held_check, held_fence, on_held_row}
 use Rattle.ax_state.specs.Answer.{Answer, answer}
-use Rattle.ax_step_log.specs.Logging.{command_at, sent_decided, appended, appended_unless, with_reservation, reservation_of, reserved_cells, released}
-use Rattle.ax_step_claims.specs.Claiming.{claimed, claimed_reply, granted}
-use Rattle.ax_step_work.specs.Working.{Failure, fetch_at, commit_batch, commit_over, committed, fetched, batch_of, first_failure, present_row, items_of_batch, with_batch}
+use Rattle.ax_step_log.specs.Logging.{command_at, sent_decided, appended, appended_unless, with_reservation, reservation_of, reserved_cells, released as unreserved, void_from, voided_cell}
+use Rattle.ax_step_claims.specs.Claiming.{claimed, claimed_reply, granted, extended, released, halved, split_row, joined, merged_with}
+use Rattle.ax_step_work.specs.Working.{Failure, commit_batch, commit_over, committed, fetched, batch_of, first_failure, present_row, items_of_batch, with_batch}
 use Rattle.ax_values.specs.declared.cell.Cell.{Cell}
 use Rattle.ax_sheet.specs.declared.decision.Decided.{Decided}
 use Rattle.ax_journal.specs.declared.order.Order.{Order}
@@ -34,6 +34,9 @@ same n = omega arith
 
 next : (n : ℕ) → suc n < n + 2 ^ 32
 next n = omega arith
+
+second : (n : ℕ) → suc (suc n) < n + 2 ^ 32
+second n = omega arith
 
 pick : (m : State) (b : Bool) (x y : Answer) → Stays m x → Stays m y → Stays m (if b then x else y)
 pick m true x y h k = h
@@ -53,12 +56,22 @@ stays-unless m k r (Some i) = record { setting = refl; fence = same m.fence; unf
 stays-unless m k r None =
     pick m (length_of (aggregate_of r.records) m.cells == r.first_seq)
     (answer (with_reservation k None (with_cells (put_cells r.first (map Cell.Event r.records) m.cells) m)) (Reply.Appended r.first_seq (length r.records)))
-    (answer (with_reservation k None (with_cells (released (Some r) m.cells) m)) (Reply.Conflict r.first_seq (length_of (aggregate_of r.records) m.cells)))
+    (answer (with_reservation k None (with_cells (unreserved (Some r) m.cells) m)) (Reply.Conflict r.first_seq (length_of (aggregate_of r.records) m.cells)))
     (record { setting = refl; fence = same m.fence; unfailing = refl }) (record { setting = refl; fence = same m.fence; unfailing = refl })
 
 stays-appended : (m : State) (k : ℕ) (o : Option Reservation) → Stays m (appended m k o)
 stays-appended m k None = record { setting = refl; fence = same m.fence; unfailing = refl }
 stays-appended m k (Some r) = stays-unless m k r (void_among m.cells r.first r.records)
+
+-- ---- void
+
+stays-voided : (m : State) (i : ℕ) (o : Option Cell) → Stays m (voided_cell m i o)
+stays-voided m i None = record { setting = refl; fence = same m.fence; unfailing = refl }
+stays-voided m i (Some Cell.Void) = record { setting = refl; fence = same m.fence; unfailing = refl }
+stays-voided m i (Some (Cell.Event r)) = record { setting = refl; fence = same m.fence; unfailing = refl }
+stays-voided m i (Some (Cell.Reserved a s w t)) =
+    pick m (nat_lt (t + void_period) m.clock) (answer (with_cells (void_from i 1 m.cells) m) (Reply.Voided i)) (answer m (Reply.Young t))
+    (record { setting = refl; fence = same m.fence; unfailing = refl }) (record { setting = refl; fence = same m.fence; unfailing = refl })
 
 -- ---- claim
 
@@ -72,7 +85,7 @@ stays-claimed m k p s (Some r) =
     pick m (is_claimed (actor_name m k) m.clock r) (answer m (claimed_reply r r.owner)) (granted m k p s r)
     (record { setting = refl; fence = same m.fence; unfailing = claimed-unfailing r r.owner }) (record { setting = refl; fence = next m.fence; unfailing = refl })
 
--- ---- fetch and commit
+-- ---- on a held row
 
 check-unfailing : (o : Option ℕ) (row : Option TokenRow) → IfSome (held_check o row) (λ r. is_fault r ≡ false)
 check-unfailing None None = refl
@@ -89,10 +102,23 @@ stays-checked m (Some refusal) row later u h = record { setting = refl; fence = 
 stays-checked m None None later u h = record { setting = refl; fence = same m.fence; unfailing = refl }
 stays-checked m None (Some r) later u h = h r
 
-stays-fetch : (m : State) (k p : ℕ) (s : Segment) (most : ℕ) → Stays m (fetch_at m k p s most)
-stays-fetch m k p s most =
-    stays-checked m (held_check (held_fence p s (desk_at m k).held) (row_at s (processor_state_at m p).rows)) (row_at s (processor_state_at m p).rows) (λ r. fetched m k (batch_of m p s most r))
-    (check-unfailing (held_fence p s (desk_at m k).held) (row_at s (processor_state_at m p).rows)) (λ r. record { setting = refl; fence = same m.fence; unfailing = refl })
+stays-held : (m : State) (k p : ℕ) (s : Segment) (later : TokenRow → Answer) → ((r : TokenRow) → Stays m (later r)) → Stays m (on_held_row m k p s later)
+stays-held m k p s later h =
+    stays-checked m (held_check (held_fence p s (desk_at m k).held) (row_at s (processor_state_at m p).rows)) (row_at s (processor_state_at m p).rows) later
+    (check-unfailing (held_fence p s (desk_at m k).held) (row_at s (processor_state_at m p).rows)) h
+
+stays-split : (m : State) (p : ℕ) (s : Segment) (r : TokenRow) → Stays m (split_row m p s r)
+stays-split m p s r =
+    pick m (s.mask == max_mask) (answer m Reply.MaskFull) (halved m p s r)
+    (record { setting = refl; fence = same m.fence; unfailing = refl }) (record { setting = refl; fence = second m.fence; unfailing = refl })
+
+stays-merged : (m : State) (k p : ℕ) (r : TokenRow) (o : Option TokenRow) → Stays m (merged_with m k p r o)
+stays-merged m k p r None = record { setting = refl; fence = same m.fence; unfailing = refl }
+stays-merged m k p r (Some q) =
+    pick m (is_claimed (actor_name m k) m.clock q) (answer m (claimed_reply q q.owner)) (joined m p r q)
+    (record { setting = refl; fence = same m.fence; unfailing = claimed-unfailing q q.owner }) (record { setting = refl; fence = next m.fence; unfailing = refl })
+
+-- ---- fetch and commit
 
 stays-committed : (m : State) (k : ℕ) (b : Batch) (r : TokenRow) (o : Option Failure) → Stays m (committed m k b r o)
 stays-committed m k b r (Some f) = record { setting = refl; fence = same m.fence; unfailing = refl }
@@ -115,7 +141,18 @@ pub stays : (m : State) (k : ℕ) (o : Order) → IsPerformed o → Stays m (ste
 stays m k (Order.Send a c args) h = stays-decided m k a (decision (command_at m.setting.sheet c) args (aggregate_state m a))
 stays m k Order.Append h = stays-appended m k (desk_at m k).reservation
 stays m k (Order.Claim p s) h = stays-claimed m k (processor_number m.setting.processors p) s (row_at s (processor_state_at m (processor_number m.setting.processors p)).rows)
-stays m k (Order.Fetch p s most) h = stays-fetch m k (processor_number m.setting.processors p) s most
+stays m k (Order.Extend p s) h = stays-held m k (processor_number m.setting.processors p) s (extended m (processor_number m.setting.processors p)) (λ r. record { setting = refl; fence = same m.fence; unfailing = refl })
+stays m k (Order.Release p s) h = stays-held m k (processor_number m.setting.processors p) s (released m k (processor_number m.setting.processors p) s) (λ r. record { setting = refl; fence = next m.fence; unfailing = refl })
+stays m k (Order.Split p s) h = stays-held m k (processor_number m.setting.processors p) s (split_row m (processor_number m.setting.processors p) s) (stays-split m (processor_number m.setting.processors p) s)
+stays m k (Order.Merge p s) h =
+    stays-held m k (processor_number m.setting.processors p) s _ (λ r. stays-merged m k (processor_number m.setting.processors p) r (partner_row (partner s) (processor_state_at m (processor_number m.setting.processors p)).rows))
+stays m k (Order.Fetch p s most) h =
+    stays-held m k (processor_number m.setting.processors p) s (λ r. fetched m k (batch_of m (processor_number m.setting.processors p) s most r)) (λ r. record { setting = refl; fence = same m.fence; unfailing = refl })
 stays m k Order.Commit h = stays-batch m k (desk_at m k).batch
 stays m k (Order.ShowRows p) h = record { setting = refl; fence = same m.fence; unfailing = refl }
+stays m k (Order.Tick ms) h = record { setting = refl; fence = same m.fence; unfailing = refl }
+stays m k (Order.Void cell) h = stays-voided m cell (slice_get m.cells cell)
+stays m k Order.Stop h = record { setting = refl; fence = same m.fence; unfailing = refl }
+stays m k (Order.ShowTokens p) h = record { setting = refl; fence = same m.fence; unfailing = refl }
+stays m k Order.ShowLog h = record { setting = refl; fence = same m.fence; unfailing = refl }
 stays m k order h = absurd (cc)

@@ -12,10 +12,12 @@ use Rattle.ax_state.specs.Answer.{Answer, answer, reported}
 use Rattle.ax_script.specs.Judging.{is_known, actor_place}
 use Rattle.ax_script.specs.Plans.{Plan}
 use Rattle.ax_script.specs.Queues.{option_or, queue_of, times_of}
-use Rattle.ax_step_log.specs.Logging.{send, append}
-use Rattle.ax_step_claims.specs.Claiming.{claim}
+use Rattle.ax_step_log.specs.Logging.{tick, send, append, void, stop}
+use Rattle.ax_step_claims.specs.Claiming.{claim, extend, release, split, merge}
 use Rattle.ax_step_work.specs.Working.{fetch, commit}
 use Rattle.ax_report.specs.Reports.{rows_report}
+use Rattle.ax_report.specs.TokenReports.{tokens_report}
+use Rattle.ax_report.specs.LogReports.{log_report}
 
 -- ---- one step
 
@@ -27,6 +29,15 @@ is_performed (Order.Claim p s) = true
 is_performed (Order.Fetch p s most) = true
 is_performed Order.Commit = true
 is_performed (Order.ShowRows p) = true
+is_performed (Order.Tick ms) = true
+is_performed (Order.Void cell) = true
+is_performed Order.Stop = true
+is_performed (Order.Extend p s) = true
+is_performed (Order.Release p s) = true
+is_performed (Order.Split p s) = true
+is_performed (Order.Merge p s) = true
+is_performed (Order.ShowTokens p) = true
+is_performed Order.ShowLog = true
 is_performed order = false
 
 -- Of an order that is not performed nothing can be said: no proof sees what stands here, and what performs orders asks for ones that are performed.
@@ -41,6 +52,15 @@ step m actor (Order.Claim p s) = claim m actor p s
 step m actor (Order.Fetch p s most) = fetch m actor p s most
 step m actor Order.Commit = commit m actor
 step m actor (Order.ShowRows p) = reported m (rows_report m (processor_number m.setting.processors p))
+step m actor (Order.Tick ms) = tick m ms
+step m actor (Order.Void cell) = void m cell
+step m actor Order.Stop = stop m actor
+step m actor (Order.Extend p s) = extend m actor p s
+step m actor (Order.Release p s) = release m actor p s
+step m actor (Order.Split p s) = split m actor p s
+step m actor (Order.Merge p s) = merge m actor p s
+step m actor (Order.ShowTokens p) = reported m (tokens_report m (processor_number m.setting.processors p))
+step m actor Order.ShowLog = reported m (log_report m)
 step m actor order = unsaid m
 
 -- the names of the order are declared, each of the right kind

@@ -22,10 +22,19 @@ pub fn step(alloc: Global, world: &World, actor: u32, order: &Order) -> Result<M
     match order {
         Order::Send { .. } => ax_step_log::step(alloc, world, actor, order),
         Order::Append => ax_step_log::step(alloc, world, actor, order),
+        Order::Tick { .. } => ax_step_log::step(alloc, world, actor, order),
+        Order::Void { .. } => ax_step_log::step(alloc, world, actor, order),
+        Order::Stop => ax_step_log::step(alloc, world, actor, order),
         Order::Claim { .. } => ax_step_claims::step(alloc, world, actor, order),
+        Order::Extend { .. } => ax_step_claims::step(alloc, world, actor, order),
+        Order::Release { .. } => ax_step_claims::step(alloc, world, actor, order),
+        Order::Split { .. } => ax_step_claims::step(alloc, world, actor, order),
+        Order::Merge { .. } => ax_step_claims::step(alloc, world, actor, order),
         Order::Fetch { .. } => ax_step_work::step(alloc, world, actor, order),
         Order::Commit => ax_step_work::step(alloc, world, actor, order),
         Order::ShowRows { .. } => ax_report::step(alloc, world, actor, order),
+        Order::ShowTokens { .. } => ax_report::step(alloc, world, actor, order),
+        Order::ShowLog => ax_report::step(alloc, world, actor, order),
         _ => unreachable!(),
     }
 }

@@ -1,6 +1,6 @@
 use crate::scripts::Scripts;
 use crate::sinks::ByteSink;
-use ax_case_lines::{CaseFault, case_named, u32_of};
+use ax_case_lines::{CaseFault, case_named, first_word, u32_of};
 use ax_ports::{MemoryKeeper, MemorySink, MemorySource, StdSource};
 use ax_top::{Status, run_script};
 use ax_values::{line_words, write_number};
@@ -16,6 +16,7 @@ pub(crate) enum CallCase {
     Wordless,
     Unread,
     Status,
+    Tail,
     Run,
     Cuts,
     Rooms,
@@ -30,6 +31,7 @@ impl CallCase {
             b"wordless" => CallCase::Wordless,
             b"unread" => CallCase::Unread,
             b"status" => CallCase::Status,
+            b"tail" => CallCase::Tail,
             b"run" => CallCase::Run,
             b"cuts" => CallCase::Cuts,
             b"rooms" => CallCase::Rooms
@@ -74,6 +76,7 @@ impl Calls {
                 let (status, _) = run(alloc, &words, scripts.script())?;
                 write_status(status, out)
             }
+            CallCase::Tail => write_tail(alloc, rest, scripts.script(), out),
             CallCase::Run => {
                 let words = words_of(alloc, b"run")?;
                 let script = scripts.with(alloc, rest)?;
@@ -168,6 +171,22 @@ fn write_unread(alloc: Global, rest: &[u8], out: &mut Vec<u8>) -> Result<(), Cas
     let (status, sink) = run_unread(alloc, &words);
     write_status(status, out)?;
     write_text(sink.bytes(), out)
+}
+
+/// What a call over the script ends with, and the last bytes of what it prints: `COUNT WORDS`.
+fn write_tail(
+    alloc: Global,
+    rest: &[u8],
+    script: &[u8],
+    out: &mut Vec<u8>,
+) -> Result<(), CaseFault> {
+    let (count, words) = first_word(rest);
+    let count = u32_of(count)? as usize;
+    let words = words_of(alloc, words)?;
+    let (status, sink) = run(alloc, &words, script)?;
+    write_status(status, out)?;
+    let text = sink.bytes();
+    write_text(&text[text.len().saturating_sub(count)..], out)
 }
 
 /// What a call over the script ends with, cut after each of its bytes in turn: `done`, or the message.

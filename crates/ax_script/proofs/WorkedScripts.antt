@@ -53,7 +53,7 @@ pub form_of_a_number : script_in all_built (head ++ codes "a1 tick 05\n") ≡ Er
 unfolding first_kind with_line line_read script_in order_in is_known is_show is_stop
 form_of_a_number = refl
 
-pub later_than_built : script_in is_built (head ++ codes "a1 tick 5\n") ≡ Err (wrong 7 ScriptKind.Later)
+pub later_than_built : script_in is_built (head ++ codes "a1 deliver\n") ≡ Err (wrong 7 ScriptKind.Later)
 unfolding first_kind with_line line_read script_in order_in is_known is_show is_stop
 later_than_built = refl
 

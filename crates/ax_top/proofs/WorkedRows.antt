@@ -28,7 +28,7 @@ script_cut_in_a_line : answer run_word (head ++ codes "c1 do card-1 iss") ≡ re
 unfolding digits answer first_kind with_line line_read script_in order_in is_known is_show is_stop ones whole_at
 script_cut_in_a_line = refl
 
-form_not_built_yet : answer run_word (head ++ codes "c1 tick 5\n") ≡ record { status = Status.Script; text = codes "script 9 later\n" }
+form_not_built_yet : answer run_word (head ++ codes "c1 deliver\n") ≡ record { status = Status.Script; text = codes "script 9 later\n" }
 unfolding digits answer first_kind with_line line_read script_in order_in is_known is_show is_stop ones whole_at
 form_not_built_yet = refl
 

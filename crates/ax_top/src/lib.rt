@@ -5,6 +5,8 @@
 mod answer;
 mod status;
 mod task;
+#[cfg(test)]
+mod tests;
 mod text;
 mod top;
 
