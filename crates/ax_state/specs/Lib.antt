@@ -4,4 +4,5 @@ pub mod State
 pub mod Positions
 pub mod Portions
 pub mod WellFormed
+pub mod Batches
 pub mod Answer

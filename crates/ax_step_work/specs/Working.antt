@@ -1,25 +1,24 @@
 -- Steps on batches: fetch and commit.
-use Rattle.std.specs.Prelude.{ℕ, zero, suc, ◌==◌, Bool, not, ◌&&◌, List, [], ◌∷◌, ◌++◌, length, filter, flat_map, Option, Some, None, Result, Ok, Err, nat_lt, nat_le, IsTrue, if◌then◌else◌}
-use Rattle.ax_values.specs.Grammar.{Name, ItemName}
-use Rattle.ax_values.specs.Words.{same_name}
+use Rattle.std.specs.Prelude.{ℕ, zero, suc, ◌==◌, Bool, true, false, not, ◌&&◌, List, [], ◌∷◌, length, filter, flat_map, find, Option, Some, None, nat_lt, nat_le, IsTrue, if◌then◌else◌}
+use Rattle.ax_values.specs.Grammar.{Name, Line}
 use Rattle.ax_log.specs.Log.{Stored, events, first_reserved}
-use Rattle.ax_rules.specs.Expr.{Row}
-use Rattle.ax_rules.specs.Rules.{Rules, fold_from, start_row, row_or}
+use Rattle.ax_rules.specs.Rules.{Rules}
 use Rattle.ax_rules.specs.Why.{why_text}
 use Rattle.ax_segments.specs.Segments.{Segment, matches}
 use Rattle.ax_segments.specs.Sequences.{hash_in}
 use Rattle.ax_tokens.specs.Tokens.{Token, covers, advanced, collapsed, gaps_fit}
-use Rattle.ax_projections.specs.Items.{Placed, placed_items, plain_items}
+use Rattle.ax_projections.specs.Items.{Placed}
 use Rattle.ax_claims.specs.Rows.{TokenRow, row_at, put_row}
+use Rattle.ax_basis.specs.Basis.{Share}
+use Rattle.ax_basis.specs.Outcomes.{outcomes}
 use Rattle.ax_state.specs.Setting.{Setting, processor_number, projection_at, is_projection, whole_at}
 use Rattle.ax_state.specs.State.{State, Batch, desk_at, processor_state_at, with_desk, with_rows}
-use Rattle.ax_state.specs.Positions.{row_of}
+use Rattle.ax_state.specs.Batches.{fetched_events, batch_items, shares_of}
 use Rattle.ax_state.specs.Answer.{Answer, answer}
 use Rattle.ax_world.specs.Holding.{on_held_row}
 use Rattle.ax_values.specs.declared.cell.Cell.{Cell}
-use Rattle.ax_rules.specs.declared.cause.Cause.{Cause}
-use Rattle.ax_rules.specs.declared.why.Why.{Why}
-use Rattle.ax_upcast.specs.declared.upcaster.Upcaster.{Upcaster}
+use Rattle.ax_basis.specs.declared.item.BasisItem.{BasisItem}
+use Rattle.ax_basis.specs.declared.outcome.Outcome.{Outcome}
 use Rattle.ax_journal.specs.declared.order.Order.{Order}
 use Rattle.ax_journal.specs.declared.reply.Reply.{Reply}
 
@@ -60,61 +59,48 @@ fetched_token whole s t cells most = collapsed (advanced cells (fetch_bound whol
 
 -- ---- fetch
 
--- the event is of the segment, the new token covers it, and the old one does not
-abbrev pub is_fetched : Option Name → Segment → Token → Token → Stored → Bool
-is_fetched whole s old new e =
-    matches s (hash_in whole e.record_of.aggregate)
-    && (covers new s.mask (hash_in whole e.record_of.aggregate) e.index && not (covers old s.mask (hash_in whole e.record_of.aggregate) e.index))
-
-abbrev pub fetched_events : Option Name → Batch → List Stored → List Stored
-fetched_events whole b es = filter (is_fetched whole b.segment b.old b.new) es
-
-abbrev pub batch_of : State → ℕ → Segment → ℕ → TokenRow → Batch
-batch_of m p s most r = record { processor = p; segment = s; fence = r.fence; old = r.token; new = fetched_token (whole_at m.setting p) s r.token m.cells most }
+abbrev pub fetched_batch : State → ℕ → Segment → ℕ → TokenRow → Batch
+fetched_batch m p s most r = record { processor = p; segment = s; fence = r.fence; old = r.token; new = fetched_token (whole_at m.setting p) s r.token m.cells most }
 
 abbrev pub fetched : State → ℕ → Batch → Answer
 fetched m actor b = answer (with_batch actor (Some b) m) (Reply.Fetched (length (fetched_events (whole_at m.setting b.processor) b (events m.cells))))
 
 abbrev pub fetch_at : State → ℕ → ℕ → Segment → ℕ → Answer
-fetch_at m actor p s most = on_held_row m actor p s (λ r. fetched m actor (batch_of m p s most r))
+fetch_at m actor p s most = on_held_row m actor p s (λ r. fetched m actor (fetched_batch m p s most r))
 
 abbrev pub fetch : State → ℕ → Name → Segment → ℕ → Answer
 fetch m actor name s most = fetch_at m actor (processor_number m.setting.processors name) s most
 
--- ---- what a batch makes of rows
+-- ---- what becomes of the items of a batch
 
--- the items of a batch, by index, then part
-abbrev pub batch_items : Option Name → List Upcaster → Batch → List Stored → List Placed
-batch_items whole chain b es = flat_map (placed_items chain) (fetched_events whole b es)
+-- an item with its outcome
+pub record Told : Type 0 where
+  pub item : BasisItem
+  pub outcome : Outcome
 
-abbrev pub is_item_of : Name → Placed → Bool
-is_item_of a x = same_name x.item.name.aggregate a
+abbrev pub told : List BasisItem → List Outcome → List Told
+told [] os = []
+told (x ∷ xs) [] = []
+told (x ∷ xs) (o ∷ os) = record { item = x; outcome = o } ∷ told xs os
 
--- the items of an aggregate
-abbrev pub share_of : Name → List Placed → List Placed
-share_of a xs = filter (is_item_of a) xs
+-- the items of a share with their outcomes
+abbrev pub told_share : Rules → Bool → Share → List Told
+told_share rules keep s = told s.items (outcomes rules keep s)
 
--- the row of an aggregate, which a well-formed state defines
-abbrev pub present_row : State → ℕ → Name → Row
-present_row m p a = row_or (start_row (projection_at m.setting p).fields) (row_of m p a)
+abbrev pub is_left : Outcome → Bool
+is_left Outcome.Applied = false
+is_left (Outcome.Parked why) = true
+is_left (Outcome.Dropped why) = true
 
--- the row of an aggregate behind its items, or the first cause
-abbrev pub row_behind : Rules → (Name → Row) → List Placed → Name → Result Row Cause
-row_behind rules row xs a = fold_from rules (plain_items (share_of a xs)) (row a)
+-- why an item is not applied
+abbrev pub left_text : Outcome → Line
+left_text Outcome.Applied = []
+left_text (Outcome.Parked why) = why_text why
+left_text (Outcome.Dropped why) = why_text why
 
-pub record Failure : Type 0 where
-  pub item : ItemName
-  pub cause : Cause
-
-abbrev pub failure_or : ItemName → Option Failure → Result Row Cause → Option Failure
-failure_or x later (Ok row) = later
-failure_or x later (Err c) = Some (record { item = x; cause = c })
-
--- the first of the items xs behind the items `before` that does not apply to what its aggregate's items so far make of the row
-abbrev pub first_failure : Rules → (Name → Row) → List Placed → List Placed → Option Failure
-first_failure rules row before [] = None
-first_failure rules row before (x ∷ xs) =
-    failure_or x.item.name (first_failure rules row (before ++ x ∷ []) xs) (row_behind rules row (before ++ x ∷ []) x.item.name.aggregate)
+-- the first item that is not applied, by sequence, then in the order of the sequence's items
+abbrev pub first_left : Rules → Bool → List Share → Option Told
+first_left rules keep shares = find (λ t. is_left t.outcome) (flat_map (told_share rules keep) shares)
 
 -- ---- commit
 
@@ -126,14 +112,18 @@ installed m actor b r = with_batch actor None (with_rows b.processor (put_row (r
 abbrev pub items_of_batch : State → Batch → List Placed
 items_of_batch m b = batch_items (whole_at m.setting b.processor) m.setting.sheet.chain b (events m.cells)
 
-abbrev pub committed : State → ℕ → Batch → TokenRow → Option Failure → Answer
-committed m actor b r (Some f) = answer m (Reply.NotApplied f.item (why_text (Why.Failed f.cause)))
+-- its shares; while nothing is dropped, a failed item is to be parked
+abbrev pub shares_in : State → Batch → List Share
+shares_in m b = shares_of (whole_at m.setting b.processor) (projection_at m.setting b.processor) m.setting.sheet.chain b (events m.cells)
+
+abbrev pub committed : State → ℕ → Batch → TokenRow → Option Told → Answer
+committed m actor b r (Some t) = answer m (Reply.NotApplied t.item.item.name (left_text t.outcome))
 committed m actor b r None = answer (installed m actor b r) (Reply.Committed (length (items_of_batch m b)) 0 0)
 
 abbrev pub commit_over : State → ℕ → Batch → Option TokenRow → Answer
 commit_over m actor b None = answer (with_batch actor None m) (Reply.Stale b.fence None)
 commit_over m actor b (Some r) =
-    if r.fence == b.fence then committed m actor b r (first_failure (projection_at m.setting b.processor) (present_row m b.processor) [] (items_of_batch m b))
+    if r.fence == b.fence then committed m actor b r (first_left (projection_at m.setting b.processor) true (shares_in m b))
     else answer (with_batch actor None m) (Reply.Stale b.fence (Some r.fence))
 
 abbrev pub commit_batch : State → ℕ → Option Batch → Answer

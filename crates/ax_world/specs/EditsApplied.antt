@@ -5,7 +5,7 @@ use Rattle.ax_log.specs.Puts.{put_all}
 use Rattle.ax_projections.specs.Table.{put_entry}
 use Rattle.ax_claims.specs.Rows.{TokenRow}
 use Rattle.ax_state.specs.State.{ProcessorState}
-use Rattle.ax_world.specs.WorldTables.{WorldTables, ProcessorTables, processor_tables_in}
+use Rattle.ax_world.specs.WorldTables.{WorldTables, ProcessorTables, processor_tables_in, desk_of}
 use Rattle.ax_projections.specs.declared.table.Positioned.{Positioned}
 use Rattle.ax_world.specs.declared.edit.Edit.{Edit}
 
@@ -26,7 +26,7 @@ edit_applied w (Edit.Fence fence) = record w { fence = fence }
 edit_applied w (Edit.Cells puts) = record w { cells = put_all puts w.cells }
 edit_applied w (Edit.SetRows p rows) = record w { processor_tables = rows_set p rows w.processor_tables }
 edit_applied w (Edit.PutRow p a v) = record w { processor_tables = row_put p a v w.processor_tables }
-edit_applied w (Edit.SetDesk k desk) = record w { desks = slice_set w.desks k desk }
+edit_applied w (Edit.SetDesk k desk) = record w { desks = slice_set w.desks k (desk_of desk); bases = slice_set w.bases k desk.batch }
 
 -- one after another
 abbrev pub edits_applied : List Edit → WorldTables → WorldTables

@@ -1,5 +1,5 @@
 -- What every world keeps, and which edits can be made of it.
-use Rattle.std.specs.Prelude.{◌≡◌, ℕ, ◌+◌, ◌-◌, ◌^◌, ◌<◌, ◌≤◌, ◌==◌, Bool, true, false, List, [], ◌∷◌, length, Option, Some, None, IsTrue, nat_lt, if◌then◌else◌}
+use Rattle.std.specs.Prelude.{◌≡◌, ℕ, ◌+◌, ◌-◌, ◌^◌, ◌<◌, ◌≤◌, ◌==◌, Bool, true, false, List, [], ◌∷◌, length, Option, Some, None, IsTrue, IfSome, nat_lt, if◌then◌else◌}
 use Rattle.std.specs.List.{AllByRecursion}
 use Rattle.ax_values.specs.Grammar.{Name}
 use Rattle.ax_log.specs.Log.{Stored, events}
@@ -12,6 +12,7 @@ use Rattle.ax_state.specs.State.{ProcessorState}
 use Rattle.ax_state.specs.Positions.{first_letter, drops_of}
 use Rattle.ax_state.specs.Portions.{portions, covered_events, position_by, row_by}
 use Rattle.ax_state.specs.WellFormed.{IsWellFormed}
+use Rattle.ax_state.specs.Batches.{IsBasisOf}
 use Rattle.ax_world.specs.WorldTables.{WorldTables, ProcessorTables, Room, state_of, processor_tables_at, rows_room}
 use Rattle.ax_world.specs.EditsApplied.{edit_applied, edits_applied}
 use Rattle.ax_projections.specs.declared.table.Positioned.{Positioned}
@@ -37,6 +38,7 @@ pub record IsWorld (w : WorldTables) : Type 0 where
   pub setting : IsSetting w.setting
   pub state : IsWellFormed (state_of w)
   pub tables : AllFrom (IsTable w.setting (events w.cells)) 0 w.processor_tables
+  pub bases : AllByRecursion (λ o. IfSome o (IsBasisOf w.setting w.cells)) w.bases
 
 -- ---- edits
 

@@ -1,17 +1,32 @@
 -- What contracts see of a world: what it keeps, and for how much more there is room.
-use Rattle.std.specs.Prelude.{ℕ, List, [], map, slice_get}
+use Rattle.std.specs.Prelude.{ℕ, List, [], map, Option, Some, None, option_map, slice_get}
 use Rattle.ax_log.specs.Puts.{Room as LogRoom}
 use Rattle.ax_projections.specs.Table.{Entry}
 use Rattle.ax_claims.specs.Rows.{TokenRow}
+use Rattle.ax_basis.specs.Basis.{Basis}
 use Rattle.ax_state.specs.Every.{option_or}
 use Rattle.ax_state.specs.Setting.{Setting}
-use Rattle.ax_state.specs.State.{State, ProcessorState, Desk, empty_processor, empty_desk, first_processors, row_count}
+use Rattle.ax_state.specs.State.{State, ProcessorState, Desk, Held, Reservation, empty_processor, empty_desk, first_processors, row_count}
+use Rattle.ax_state.specs.Batches.{batch_of}
 use Rattle.ax_values.specs.declared.cell.Cell.{Cell}
 
 -- of one processor: the part of the state, and the rows of its aggregates
 pub record ProcessorTables : Type 0 where
   pub processor_state : ProcessorState
   pub table : List Entry
+
+-- of one actor: what its desk holds, with all that its batch is handled from
+pub record DeskTables : Type 0 where
+  pub held : List Held
+  pub reservation : Option Reservation
+  pub batch : Option Basis
+
+-- the desk of the state
+abbrev pub desk_of : DeskTables → Desk
+desk_of d = record { held = d.held; reservation = d.reservation; batch = option_map batch_of d.batch }
+
+abbrev pub no_desk : DeskTables
+no_desk = record { held = []; reservation = None; batch = None }
 
 pub record WorldTables : Type 0 where
   pub setting : Setting
@@ -20,6 +35,7 @@ pub record WorldTables : Type 0 where
   pub cells : List Cell
   pub processor_tables : List ProcessorTables
   pub desks : List Desk
+  pub bases : List (Option Basis)
 
 -- the state that a whole stands for
 abbrev pub state_of : WorldTables → State
@@ -57,6 +73,7 @@ starting s = record {
   cells = [];
   processor_tables = map bare (first_processors s.processors 1);
   desks = map (λ actor. empty_desk) s.actors;
+  bases = map (λ actor. None) s.actors;
 }
 
 -- which cells and, by processor, how many new rows take no memory

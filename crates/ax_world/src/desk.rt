@@ -1,9 +1,9 @@
 ghost use Rattle.std.specs.Prelude.{◌≡◌, IfOk};
-ghost use Rattle.ax_state.specs.State.{empty_desk};
+ghost use Rattle.ax_world.specs.WorldTables.{no_desk};
 ghost use Rattle.ax_world.specs.Holding.{is_held_at};
 
+use ax_basis::Basis;
 use ax_segments::Segment;
-use ax_tokens::Token;
 use ax_values::{Duplicate, ListOf, NoMemory, Records};
 use std::alloc::Global;
 use std::marker::Model;
@@ -26,22 +26,12 @@ pub struct Reservation {
     pub records: Records,
 }
 
-/// What a fetch advances from and to, of the segment of a processor, under the fence of its row.
-#[derive(Drop)]
-pub struct Batch {
-    pub processor: u32,
-    pub segment: Segment,
-    pub fence: u64,
-    pub old: Token,
-    pub new: Token,
-}
-
-/// What one actor holds.
+/// What one actor holds: the fences of its claims, the cells that it has reserved, and the batch that it has fetched.
 #[derive(Drop)]
 pub struct Desk {
     pub held: HeldList,
     pub reservation: Option<Reservation>,
-    pub batch: Option<Batch>,
+    pub batch: Option<Basis>,
 }
 
 impl Model for Held {
@@ -60,25 +50,12 @@ impl Model for Reservation {
     ghost view = { λ held. record { first = held.first; first_seq = held.first_seq; records = held.records } };
 }
 
-impl Model for Batch {
-    ghost use Rattle.std.specs.Coded.{codes};
-    ghost use Rattle.ax_tokens.specs.TokenCode.{coded_token};
-    ghost use Rattle.ax_tokens.specs.Nodes.{token_of};
-    ghost use Rattle.ax_state.specs.State.{Batch as Kept};
-
-    ghost Value = { Kept };
-
-    ghost coded = { Prim.hlevel (codes, coded_token) };
-
-    ghost view = { λ batch. record { processor = batch.processor; segment = batch.segment; fence = batch.fence; old = token_of batch.old; new = token_of batch.new } };
-}
-
 impl Model for Desk {
     ghost use Rattle.std.specs.Coded.{codes};
     ghost use Rattle.ax_tokens.specs.TokenCode.{coded_token};
-    ghost use Rattle.ax_state.specs.State.{Desk as Kept};
+    ghost use Rattle.ax_world.specs.WorldTables.{DeskTables};
 
-    ghost Value = { Kept };
+    ghost Value = { DeskTables };
 
     ghost coded = { Prim.hlevel (codes, coded_token) };
 
@@ -114,18 +91,6 @@ impl Duplicate for Reservation {
     }
 }
 
-impl Duplicate for Batch {
-    fn copy(&self, alloc: Global) -> Result<Batch, NoMemory> {
-        Ok(Batch {
-            processor: self.processor,
-            segment: self.segment,
-            fence: self.fence,
-            old: self.old.copy(alloc)?,
-            new: self.new.copy(alloc)?,
-        })
-    }
-}
-
 impl Duplicate for Desk {
     fn copy(&self, alloc: Global) -> Result<Desk, NoMemory> {
         Ok(Desk {
@@ -139,7 +104,7 @@ impl Duplicate for Desk {
 impl Desk {
     /// A desk that holds nothing.
     pub fn empty(alloc: Global) -> Desk
-        ensures { result ≡ empty_desk }
+        ensures { result ≡ no_desk }
     {
         Desk {
             held: HeldList::new(alloc),
@@ -175,7 +140,7 @@ impl Desk {
     }
 
     /// A copy with another batch.
-    pub fn with_batch(&self, alloc: Global, batch: Option<Batch>) -> Result<Desk, NoMemory>
+    pub fn with_batch(&self, alloc: Global, batch: Option<Basis>) -> Result<Desk, NoMemory>
         ensures { IfOk result (λ desk. desk ≡ record self.now { batch = batch }) }
     {
         Ok(Desk {

@@ -10,7 +10,7 @@ mod place;
 mod start;
 mod world;
 
-pub use desk::{Batch, Desk, Held, HeldList, Reservation};
+pub use desk::{Desk, Held, HeldList, Reservation};
 pub use edit::{Edit, Edits, Move};
 pub use holding::{held_check, held_fence};
 pub use world::World;

@@ -31,7 +31,7 @@ impl Model for Parts {
     ghost use Rattle.std.specs.Coded.{codes};
     ghost use Rattle.ax_rules.specs.ExprCode.{coded_expr};
     ghost use Rattle.ax_tokens.specs.TokenCode.{coded_token};
-    ghost use Rattle.ax_world.specs.WorldTables.{WorldTablesView};
+    ghost use Rattle.ax_world.specs.WorldTables.{WorldTablesView, desk_of};
 
     ghost Value = { WorldTablesView };
 
@@ -44,7 +44,8 @@ impl Model for Parts {
         fence = w.fence;
         cells = w.log.cells;
         processor_tables = map (λ x. x.place) w.processor_tables.items;
-        desks = w.desks.items;
+        desks = map desk_of w.desks.items;
+        bases = map (λ desk. desk.batch) w.desks.items;
       };
       room = record { log = w.log.room; rows = map (λ x. x.room) w.processor_tables.items };
     } };

@@ -2,8 +2,8 @@ ghost use Rattle.std.specs.Prelude.{◌≡◌, ◌+◌, ◌^◌, ◌<◌, ◌≤
 ghost use Rattle.std.specs.List.{list_all};
 ghost use Rattle.ax_claims.specs.Rows.{starting};
 ghost use Rattle.ax_sheet.specs.Declarations.{most_processors, is_segment_count};
-ghost use Rattle.ax_state.specs.State.{empty_desk, first_processors, row_count};
-ghost use Rattle.ax_world.specs.WorldTables.{bare};
+ghost use Rattle.ax_state.specs.State.{first_processors, row_count};
+ghost use Rattle.ax_world.specs.WorldTables.{bare, no_desk};
 
 use crate::Desk;
 use crate::place::ProcessorTables;
@@ -56,7 +56,7 @@ pub(crate) fn row_count(processors: &[Processor]) -> u64
 }
 
 pub(crate) fn empty_desks(alloc: Global, actors: &[Name]) -> Result<Vec<Desk>, NoMemory>
-    ensures { IfOk result (λ desks. desks.items ≡ map (λ actor. empty_desk) actors.now) }
+    ensures { IfOk result (λ desks. desks.items ≡ map (λ actor. no_desk) actors.now) }
 {
     let mut desks = Vec::with_capacity(alloc, actors.len())?;
     for _ in actors {

@@ -3,7 +3,7 @@ ghost use Rattle.std.specs.Option.{option_copied};
 ghost use Rattle.ax_state.specs.Every.{count};
 ghost use Rattle.ax_state.specs.Setting.{IsSetting, is_projection, processor_number, projection_at};
 ghost use Rattle.ax_state.specs.State.{actor_name};
-ghost use Rattle.ax_world.specs.WorldTables.{starting, state_of, processor_tables_at};
+ghost use Rattle.ax_world.specs.WorldTables.{starting, state_of, processor_tables_at, desk_of};
 ghost use Rattle.ax_world.specs.EditsApplied.{edits_applied};
 ghost use Rattle.ax_world.specs.Fits.{IsWorld, Fits, HasRoom};
 
@@ -169,7 +169,8 @@ impl World {
     /// What an actor holds.
     pub fn desk(&self, actor: u32) -> &Desk
         requires { actor < length self.now.tables.desks }
-        ensures { slice_get self.now.tables.desks actor ≡ Some result.now }
+        ensures desk { slice_get self.now.tables.desks actor ≡ Some (desk_of result.now) }
+        ensures batch { slice_get self.now.tables.bases actor ≡ Some result.now.batch }
     {
         &self.parts.desks[actor as usize]
     }
