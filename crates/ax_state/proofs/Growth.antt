@@ -54,7 +54,7 @@ module _ (cells later : List Cell) (g : IsGrowth cells later) where
     settled = λ i e. g.settled i (h.settled i e);
   }
 
-  token-later : (mask : ℕ) (t : Token) → IsTokenOver cells mask t → IsTokenOver later mask t
+  pub token-later : (mask : ℕ) (t : Token) → IsTokenOver cells mask t → IsTokenOver later mask t
   token-later mask t h = record { each = All-map (IsPlainOver cells) (IsPlainOver later) plain-later (parts t) h.each; masks = h.masks; gaps = h.gaps; stays = h.stays }
 
   -- what is covered stays

@@ -2,6 +2,7 @@ pub mod Lists
 pub mod RowPuts
 pub mod Coverage
 pub mod Growth
+pub mod Bases
 pub mod Frames
 pub mod Actors
 pub mod Desks

@@ -55,13 +55,16 @@ one_portion s t = record { segment = s; token = t } ∷ []
 abbrev pub known_events : Option Name → Batch → List Stored → List Stored
 known_events whole b es = covered_events whole (one_portion b.segment b.old) es
 
--- an aggregate, how many of its items are known, and the row that they are folded to
-abbrev pub member_of : Option Name → Rules → List Upcaster → Batch → List Stored → Name → Member
-member_of whole rules chain b es a = record {
+-- an aggregate, how many items it has of these events, and the row that they are folded to
+abbrev pub member_by : Rules → List Upcaster → List Stored → Name → Member
+member_by rules chain known a = record {
   aggregate = a;
-  seen = record { position = position_by chain (known_events whole b es) None a; parked = false; marks = [] };
-  row = row_or (start_row rules.fields) (row_by rules chain (known_events whole b es) None [] a);
+  seen = record { position = position_by chain known None a; parked = false; marks = [] };
+  row = row_or (start_row rules.fields) (row_by rules chain known None [] a);
 }
+
+abbrev pub member_of : Option Name → Rules → List Upcaster → Batch → List Stored → Name → Member
+member_of whole rules chain b es a = member_by rules chain (known_events whole b es) a
 
 -- ---- shares
 

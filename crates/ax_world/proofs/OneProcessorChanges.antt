@@ -1,5 +1,5 @@
 -- What is kept of processors, where one of them changes.
-use Rattle.std.proofs.Common.{◌≡◌, ℕ, zero, suc, ◌+◌, ◌<◌, ◌≤◌, ◌==◌, Bool, true, false, List, [], ◌∷◌, map, length, slice_get, slice_set, get_or, refl, sym, ap, ◌∙◌, subst, arith}
+use Rattle.std.proofs.Common.{◌≡◌, ℕ, zero, suc, ◌+◌, ◌<◌, ◌≤◌, ◌==◌, Bool, true, false, List, [], ◌∷◌, map, length, Some, slice_get, slice_set, get_or, refl, sym, ap, ◌∙◌, subst, arith}
 use Rattle.std.proofs.lemmas.Bool.Decides.{nat_tests}
 use Rattle.std.proofs.lemmas.List.{length-map}
 use Rattle.ax_state.specs.Every.{option_or, one}
@@ -9,6 +9,12 @@ pub map_set : {A B : Type 0} (f : A → B) (xs : List A) (p : ℕ) (y : A) → m
 map_set f [] p y = refl
 map_set f (x ∷ xs) zero y = refl
 map_set f (x ∷ xs) (suc p) y = ap (λ ys. f x ∷ ys) (map_set f xs p y)
+
+-- what stands at a place, as f sees it
+pub got_map : {A B : Type 0} (f : A → B) (xs : List A) (p : ℕ) (x : A) → p < length xs → x ≡ get_or xs p x → slice_get (map f xs) p ≡ Some (f x)
+got_map f [] p x h e = absurd (omega arith)
+got_map f (y ∷ ys) zero x h e = ap (λ z. Some (f z)) (sym e)
+got_map f (y ∷ ys) (suc p) x h e = got_map f ys p x (omega arith) e
 
 pub at_map : {A B : Type 0} (f : A → B) (d : B) (xs : List A) (p : ℕ) (x : A) → p < length xs → x ≡ get_or xs p x → option_or d (slice_get (map f xs) p) ≡ f x
 at_map f d [] p x h e = absurd (omega arith)

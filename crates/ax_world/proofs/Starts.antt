@@ -1,11 +1,14 @@
 -- The starting world.
-use Rattle.std.proofs.Common.{◌≡◌, ℕ, suc, List, [], ◌∷◌, map, refl, sym, ap, subst}
+use Rattle.std.proofs.Common.{◌≡◌, ℕ, suc, List, [], ◌∷◌, map, None, IfSome, refl, sym, ap, ◌∙◌, subst}
+use Rattle.std.specs.List.{AllByRecursion}
+use Rattle.ax_values.specs.Grammar.{Name}
 use Rattle.ax_state.specs.Every.{AllFrom}
 use Rattle.ax_state.specs.Setting.{Setting, IsSetting}
-use Rattle.ax_state.specs.State.{ProcessorState, Desk, empty_desk, first_processors, row_count, start}
+use Rattle.ax_state.specs.State.{ProcessorState, empty_desk, first_processors, row_count, start}
 use Rattle.ax_state.specs.WellFormed.{IsWellFormed, AreCommands}
+use Rattle.ax_state.specs.Batches.{IsBasisOf}
 use Rattle.ax_state.proofs.Starting.{starts}
-use Rattle.ax_world.specs.WorldTables.{ProcessorTables, bare, starting, state_of}
+use Rattle.ax_world.specs.WorldTables.{ProcessorTables, DeskTables, desk_of, no_desk, bare, starting, state_of}
 use Rattle.ax_world.specs.Fits.{IsWorld, IsTable}
 use Rattle.ax_values.specs.declared.cell.Cell.{Cell}
 
@@ -17,6 +20,18 @@ tables-bare : (s : Setting) (p : ℕ) (processor_states : List ProcessorState) �
 tables-bare s p [] = tt
 tables-bare s p (x ∷ xs) = (λ projection a. refl, tables-bare s (suc p) xs)
 
+bases-none : (s : Setting) (actors : List Name) → AllByRecursion (λ o. IfSome o (IsBasisOf s [])) (map (λ actor. None) actors)
+bases-none s [] = tt
+bases-none s (x ∷ xs) = (tt, bases-none s xs)
+
+desks-empty : (actors : List Name) → map desk_of (map (λ actor. no_desk) actors) ≡ map (λ actor. empty_desk) actors
+desks-empty [] = refl
+desks-empty (x ∷ xs) = ap (λ ys. empty_desk ∷ ys) (desks-empty xs)
+
+pub bases-empty : (actors : List Name) → map (λ (d : DeskTables). d.batch) (map (λ actor. no_desk) actors) ≡ map (λ actor. None) actors
+bases-empty [] = refl
+bases-empty (x ∷ xs) = ap (λ ys. None ∷ ys) (bases-empty xs)
+
 -- the state of the starting world is the starting state
 pub state-starting : (s : Setting) → state_of (starting s) ≡ start s
 state-starting s = ap (λ processor_states. record (start s) { processor_states = processor_states }) (processor_states-bare (first_processors s.processors 1))
@@ -26,8 +41,10 @@ starts-world s commands h = record {
   setting = h;
   state = subst IsWellFormed (sym (state-starting s)) (starts s commands h);
   tables = tables-bare s 0 (first_processors s.processors 1);
+  bases = bases-none s s.actors;
 }
 
-pub started : (s : Setting) (fence : ℕ) (cells : List Cell) (processor_tables : List ProcessorTables) (desks : List Desk) → fence ≡ row_count s.processors → cells ≡ [] → processor_tables ≡ map bare (first_processors s.processors 1) → desks ≡ map (λ actor. empty_desk) s.actors
-    → AreCommands s.sheet → IsSetting s → IsWorld (record { setting = s; clock = 0; fence = fence; cells = cells; processor_tables = processor_tables; desks = desks })
-started s fence cells processor_tables desks f c p d commands h = rw (f, c, p, d) (starts-world s commands h)
+pub started : (s : Setting) (fence : ℕ) (cells : List Cell) (processor_tables : List ProcessorTables) (desks : List DeskTables) → fence ≡ row_count s.processors → cells ≡ [] → processor_tables ≡ map bare (first_processors s.processors 1) → desks ≡ map (λ actor. no_desk) s.actors
+    → AreCommands s.sheet → IsSetting s → IsWorld (record { setting = s; clock = 0; fence = fence; cells = cells; processor_tables = processor_tables; desks = map desk_of desks; bases = map (λ d. d.batch) desks })
+started s fence cells processor_tables desks f c p d commands h =
+    rw (f, c, p, ap (map desk_of) d ∙ desks-empty s.actors, ap (map (λ (x : DeskTables). x.batch)) d ∙ bases-empty s.actors) (starts-world s commands h)

@@ -1,5 +1,5 @@
-ghost use Rattle.std.specs.Prelude.{◌≡◌, IfOk};
-ghost use Rattle.ax_world.specs.WorldTables.{no_desk};
+ghost use Rattle.std.specs.Prelude.{◌≡◌, ◌<◌, map, length, slice_set, IfOk};
+ghost use Rattle.ax_world.specs.WorldTables.{desk_of, no_desk};
 ghost use Rattle.ax_world.specs.Holding.{is_held_at};
 
 use ax_basis::Basis;
@@ -149,4 +149,14 @@ impl Desk {
             batch,
         })
     }
+}
+
+/// Puts a desk in the place of an actor's. It takes no memory.
+#[tactic(auto, using(crate::proofs::OneProcessorChanges::map_set))]
+pub(crate) fn set_desk(desks: &mut Vec<Desk>, actor: u32, desk: Desk)
+    requires { actor < length desks.old.items }
+    ensures desks { map desk_of desks.new.items ≡ slice_set (map desk_of desks.old.items) actor (desk_of desk) }
+    ensures bases { map (λ x. x.batch) desks.new.items ≡ slice_set (map (λ x. x.batch) desks.old.items) actor desk.batch }
+{
+    desks[actor as usize] = desk;
 }

@@ -6,6 +6,7 @@ ghost use Rattle.ax_world.specs.WorldTables.{rows_room};
 ghost use Rattle.ax_world.specs.EditsApplied.{edit_applied, edits_applied};
 ghost use Rattle.ax_world.specs.Fits.{CanMake, CanMakeAll, HasCells, HasRoom, Leaves, is_cells, puts_row};
 
+use crate::desk::set_desk;
 use crate::place::{ProcessorTables, put_row, reserve_rows, set_rows};
 use crate::{Desk, Edit, Edits};
 use ax_log::{CellPuts, Log};
@@ -74,7 +75,7 @@ impl Parts {
                 aggregate,
                 value,
             } => put_row(&mut self.processor_tables, processor, aggregate, value),
-            Edit::SetDesk { actor, desk } => self.desks[actor as usize] = desk,
+            Edit::SetDesk { actor, desk } => set_desk(&mut self.desks, actor, desk),
         }
     }
 }

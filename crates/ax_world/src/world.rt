@@ -167,6 +167,7 @@ impl World {
     }
 
     /// What an actor holds.
+    #[tactic(auto, using(crate::proofs::OneProcessorChanges::got_map))]
     pub fn desk(&self, actor: u32) -> &Desk
         requires { actor < length self.now.tables.desks }
         ensures desk { slice_get self.now.tables.desks actor ≡ Some (desk_of result.now) }
