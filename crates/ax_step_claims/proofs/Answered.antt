@@ -6,12 +6,12 @@ use Rattle.ax_segments.specs.Segments.{Segment, same_segment}
 use Rattle.ax_claims.specs.Rows.{TokenRow, row_at, put_row}
 use Rattle.ax_claims.specs.Changes.{is_claimed, is_other, is_expired, owned, claimed_row, claimed as claimed_rows, IsChange}
 use Rattle.ax_claims.specs.declared.refused.Refused.{Refused}
-use Rattle.ax_state.specs.State.{State, Desk, processor_state_at, desk_at, actor_name}
+use Rattle.ax_state.specs.State.{State, Desk, processor_state_at, actor_name, with_desk, with_fence, with_rows}
 use Rattle.ax_state.specs.Portions.{portions}
 use Rattle.ax_state.specs.Answer.{answer}
 use Rattle.ax_state.proofs.RowPuts.{portions-put}
 use Rattle.ax_state.proofs.Frames.{place-there, place-at}
-use Rattle.ax_world.specs.WorldTables.{WorldTables, state_of, processor_tables_at, rows_at}
+use Rattle.ax_world.specs.WorldTables.{WorldTables, DeskTables, desk_of, state_of, processor_tables_at, rows_at}
 use Rattle.ax_world.specs.Fits.{IsWorld}
 use Rattle.ax_world.specs.Moves.{IsMove}
 use Rattle.ax_world.proofs.StepMoves.{unmoved}
@@ -20,7 +20,7 @@ use Rattle.ax_world.specs.declared.edit.Edit.{Edit}
 use Rattle.ax_journal.specs.declared.reply.Reply.{Reply}
 use Rattle.ax_step_claims.specs.Claiming.{claimed, claimed_reply, granted, hold_fence, found_reply, refused_reply, HasOwner, NamesOwned}
 use Rattle.ax_step_claims.proofs.ClaimKept.{kept-granted}
-use Rattle.ax_step_claims.proofs.Moves.{same-covers, rows-place, desk-move}
+use Rattle.ax_step_claims.proofs.Moves.{same-covers, rows-place, desk-move, desk-read}
 
 -- ---- refusals
 
@@ -109,15 +109,16 @@ grant s actor now fence old new u h = by (row_at s old) refl h
         at true c h = absurd h
         at false c h = record { row = r; found = k; free = c; rows_are = h }
 
-module _ (w : WorldTables) (actor p : ℕ) (s : Segment) (row : TokenRow) (h : IsWorld w) (lt : p < length w.processor_tables) (there : actor < length w.desks) (found : row_at s (processor_state_at (state_of w) p).rows ≡ Some row) where
+module _ (w : WorldTables) (actor p : ℕ) (s : Segment) (row : TokenRow) (h : IsWorld w) (lt : p < length w.processor_tables) (there : actor < length w.desks) (was : DeskTables) (desk : slice_get w.desks actor ≡ Some (desk_of was)) (batch : slice_get w.bases actor ≡ Some was.batch)
+    (found : row_at s (processor_state_at (state_of w) p).rows ≡ Some row) where
   abbrev m : State
   m = state_of w
 
   abbrev after : List TokenRow
   after = put_row (owned row (Some (actor_name m actor)) w.clock (suc w.fence)) (processor_state_at m p).rows
 
-  abbrev holding : Desk
-  holding = record (desk_at m actor) { held = hold_fence p s (suc w.fence) (desk_at m actor).held }
+  abbrev holding : DeskTables
+  holding = record was { held = hold_fence p s (suc w.fence) was.held }
 
   granted-move : is_claimed (actor_name m actor) w.clock row ≡ false → IsMove w (claimed m actor p s (row_at s (processor_state_at m p).rows))
       (record { edits = Edit.SetRows p after ∷ Edit.Fence (suc w.fence) ∷ Edit.SetDesk actor holding ∷ []; reply = Reply.Fenced (suc w.fence); report = [] })
@@ -129,14 +130,15 @@ module _ (w : WorldTables) (actor p : ℕ) (s : Segment) (row : TokenRow) (h : I
       (desk-move w p after (granted m actor p s row) (Reply.Fenced (suc w.fence)) h lt
       (same-covers (portions (processor_state_at m p).rows) (portions after)
       (portions-put s (processor_state_at m p).rows row (owned row (Some (actor_name m actor)) w.clock (suc w.fence)) (place-at m p (place-there m p s row found) h.state).parts found refl refl))
-      (kept-granted m actor p s row found h.state) refl refl (suc w.fence) actor holding there refl)
+      (kept-granted m actor p s row found h.state) refl refl (suc w.fence) actor holding there batch
+      (ap (λ (d : Desk). with_fence (suc w.fence) (with_desk actor (record d { held = hold_fence p s (suc w.fence) d.held }) (with_rows p after m))) (desk-read w actor was desk)))
 
-pub claim-move : (w : WorldTables) (actor p : ℕ) (s : Segment) (now fence : ℕ) (owner : Name) (old new : List TokenRow) → IsWorld w → p < length w.processor_tables → actor < length w.desks
+pub claim-move : (w : WorldTables) (actor p : ℕ) (s : Segment) (now fence : ℕ) (owner : Name) (old new : List TokenRow) (was : DeskTables) → IsWorld w → p < length w.processor_tables → actor < length w.desks → slice_get w.desks actor ≡ Some (desk_of was) → slice_get w.bases actor ≡ Some was.batch
     → now ≡ w.clock → fence ≡ w.fence + 1 → owner ≡ actor_name (state_of w) actor → old ≡ rows_at w p → IsGrant owner now fence s old new
     → IsMove w (claimed (state_of w) actor p s (row_at s (processor_state_at (state_of w) p).rows))
-    (record { edits = Edit.SetRows p new ∷ Edit.Fence fence ∷ Edit.SetDesk actor (record (desk_at (state_of w) actor) { held = hold_fence p s fence (desk_at (state_of w) actor).held }) ∷ []; reply = Reply.Fenced fence; report = [] })
-claim-move w actor p s now fence owner old new h lt there clock next name rows g =
+    (record { edits = Edit.SetRows p new ∷ Edit.Fence fence ∷ Edit.SetDesk actor (record was { held = hold_fence p s fence was.held }) ∷ []; reply = Reply.Fenced fence; report = [] })
+claim-move w actor p s now fence owner old new was h lt there desk batch clock next name rows g =
     let succ : fence ≡ suc w.fence = omega (arith, next) in
     let same : old ≡ (processor_state_at (state_of w) p).rows = rows ∙ sym (rows-place w p) in
     rw (g.rows_are, name, clock, same, succ)
-    (granted-move w actor p s g.row h lt there (ap (row_at s) (sym same) ∙ g.found) (ap₂ (λ n t. is_claimed n t g.row) (sym name) (sym clock) ∙ g.free))
+    (granted-move w actor p s g.row h lt there was desk batch (ap (row_at s) (sym same) ∙ g.found) (ap₂ (λ n t. is_claimed n t g.row) (sym name) (sym clock) ∙ g.free))

@@ -16,7 +16,7 @@ use Rattle.ax_state.proofs.RowPuts.{found-row, portions-put}
 use Rattle.ax_state.proofs.Frames.{place-there, place-at}
 use Rattle.ax_state.proofs.Splits.{CoverSame, split-covers, is-merge}
 use Rattle.ax_world.specs.Holding.{held_fence}
-use Rattle.ax_world.specs.WorldTables.{WorldTables, state_of, rows_at}
+use Rattle.ax_world.specs.WorldTables.{WorldTables, DeskTables, desk_of, state_of, rows_at}
 use Rattle.ax_world.specs.Fits.{IsWorld}
 use Rattle.ax_world.specs.Moves.{IsMove}
 use Rattle.ax_world.proofs.StepMoves.{unmoved}
@@ -24,7 +24,7 @@ use Rattle.ax_step_claims.specs.Claiming.{HasOwner, NamesOwned, claimed_reply, f
 use Rattle.ax_step_claims.proofs.HeldKept.{kept-extended, kept-released}
 use Rattle.ax_step_claims.proofs.HalvesKept.{kept-halved, kept-joined}
 use Rattle.ax_step_claims.proofs.HeldSteps.{IsNoStep, IsRowStep, refused-of, made-of, fault-of, done-of, refused-step, row-step}
-use Rattle.ax_step_claims.proofs.Moves.{same-covers, rows-place, rows-move, fenced-move, desk-move}
+use Rattle.ax_step_claims.proofs.Moves.{same-covers, rows-place, rows-move, fenced-move, desk-move, desk-read}
 use Rattle.ax_step_claims.proofs.Answered.{find-place, claimed-owner}
 use Rattle.ax_world.specs.declared.edit.Edit.{Edit}
 use Rattle.ax_journal.specs.declared.reply.Reply.{Reply}
@@ -97,19 +97,22 @@ module _ (w : WorldTables) (actor p : ℕ) (s : Segment) (h : IsWorld w) (old ne
         refusal-move refused (release_at m actor p s) e.1
         (refused-step m actor p s (λ r. Ok (put_row (owned r None 0 (suc w.fence)) rows)) (released m actor p s) refused (λ r found f. absurd (cc)) (release-now (Err refused) e.0))
 
-    abbrev left : Desk
-    left = record (desk_at m actor) { held = let_go p s (desk_at m actor).held }
+    abbrev left : DeskTables → DeskTables
+    left was = record was { held = let_go p s was.held }
 
-    pub release-made : (u : Unit {0}) → p < length w.processor_tables → actor < length w.desks → IsChanged (released_rows s held fence old) old new (Ok u)
-        → IsMove w (release_at m actor p s) (record { edits = Edit.SetRows p new ∷ Edit.Fence fence ∷ Edit.SetDesk actor left ∷ []; reply = Reply.Done; report = [] })
-    release-made u lt there k =
+    pub release-made : (u : Unit {0}) (was : DeskTables) → p < length w.processor_tables → actor < length w.desks → slice_get w.desks actor ≡ Some (desk_of was) → slice_get w.bases actor ≡ Some was.batch → IsChanged (released_rows s held fence old) old new (Ok u)
+        → IsMove w (release_at m actor p s) (record { edits = Edit.SetRows p new ∷ Edit.Fence fence ∷ Edit.SetDesk actor (left was) ∷ []; reply = Reply.Done; report = [] })
+    release-made u was lt there desk batch k =
         let step = row-step m actor p s (λ r. Ok (put_row (owned r None 0 (suc w.fence)) rows)) (released m actor p s) new (release-now (Ok new) (made-of (released_rows s held fence old) old new u k)) in
         let is : put_row (owned step.row None 0 (suc w.fence)) rows ≡ new = (let c = step.changed in cc) in
-        subst (λ x. IsMove w x (record { edits = Edit.SetRows p new ∷ Edit.Fence fence ∷ Edit.SetDesk actor left ∷ []; reply = Reply.Done; report = [] })) (sym step.is)
+        subst (λ x. IsMove w x (record { edits = Edit.SetRows p new ∷ Edit.Fence fence ∷ Edit.SetDesk actor (left was) ∷ []; reply = Reply.Done; report = [] })) (sym step.is)
         (desk-move w p new (released m actor p s step.row) Reply.Done h lt
         (subst (λ xs. CoverSame (portions rows) (portions xs)) is (put-covers step.row (owned step.row None 0 (suc w.fence)) step.found refl refl))
-        (kept-released m actor p s step.row h.state step.found step.fence) refl refl fence actor left there
-        (λ i. with_fence (sym succ i) (with_desk actor left (with_rows p (is i) m))))
+        (kept-released m actor p s step.row h.state step.found step.fence) refl refl fence actor (left was) there batch
+        (λ i. with_fence (sym succ i) (with_desk actor (let_go_of (desk-read w actor was desk i)) (with_rows p (is i) m))))
+      where
+        let_go_of : Desk → Desk
+        let_go_of d = record d { held = let_go p s d.held }
 
     -- ---- split
 

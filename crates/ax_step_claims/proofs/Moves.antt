@@ -5,17 +5,17 @@ use Rattle.ax_log.specs.Log.{Stored, events}
 use Rattle.ax_claims.specs.Rows.{TokenRow}
 use Rattle.ax_state.specs.Every.{AllFrom, option_or}
 use Rattle.ax_state.specs.Setting.{whole_at}
-use Rattle.ax_state.specs.State.{State, ProcessorState, Held, Desk, desk_at, empty_desk, processor_state_at, with_desk, with_fence, with_rows}
+use Rattle.ax_state.specs.State.{State, ProcessorState, desk_at, empty_desk, processor_state_at, with_desk, with_fence, with_rows}
 use Rattle.ax_state.specs.Portions.{Portion, portions, covered_by}
 use Rattle.ax_state.specs.WellFormed.{IsWellFormed}
 use Rattle.ax_state.specs.Answer.{Answer}
 use Rattle.ax_state.proofs.Lists.{AllFrom-set, AllFrom-get}
 use Rattle.ax_state.proofs.Splits.{CoverSame, events-same}
-use Rattle.ax_world.specs.WorldTables.{WorldTables, no_tables, state_of, processor_tables_at, rows_at}
+use Rattle.ax_world.specs.WorldTables.{WorldTables, DeskTables, desk_of, no_tables, state_of, processor_tables_at, rows_at}
 use Rattle.ax_world.specs.EditsApplied.{edit_applied, with_state}
 use Rattle.ax_world.specs.Fits.{IsWorld, IsTable, folded_row}
 use Rattle.ax_world.specs.Moves.{IsMove}
-use Rattle.ax_world.proofs.StepMoves.{moved}
+use Rattle.ax_world.proofs.StepMoves.{moved, bases-kept}
 use Rattle.ax_world.proofs.ProcessorStates.{get-at, processor_state-place, state-rows}
 use Rattle.ax_world.specs.declared.edit.Edit.{Edit}
 use Rattle.ax_journal.specs.declared.reply.Reply.{Reply}
@@ -40,15 +40,15 @@ module _ (w : WorldTables) (p : ℕ) (rows : List TokenRow) (a : Answer) (reply 
       ∙ ap (λ (cs : List Stored). folded_row w.setting k cs (processor_tables_at w p).processor_state a) (sym (events-same (portions (rows_at w p)) (portions rows) same-there (whole_at w.setting k) (events w.cells))))
 
   pub rows-move : a.state ≡ with_rows p rows (state_of w) → IsMove w a (record { edits = Edit.SetRows p rows ∷ []; reply = reply; report = [] })
-  rows-move is = moved w (Edit.SetRows p rows ∷ []) a reply h (omega arith) (lt, tt) (state-rows w p rows ∙ sym is) kept refl tables-covered reply_is report_is
+  rows-move is = moved w (Edit.SetRows p rows ∷ []) a reply h (omega arith) (lt, tt) (state-rows w p rows ∙ sym is) kept refl tables-covered h.bases reply_is report_is
 
   pub fenced-move : (fence : ℕ) → a.state ≡ with_fence fence (with_rows p rows (state_of w)) → IsMove w a (record { edits = Edit.SetRows p rows ∷ Edit.Fence fence ∷ []; reply = reply; report = [] })
-  fenced-move fence is = moved w (Edit.SetRows p rows ∷ Edit.Fence fence ∷ []) a reply h (omega arith) (lt, (tt, tt)) (ap (with_fence fence) (state-rows w p rows) ∙ sym is) kept refl tables-covered reply_is report_is
+  fenced-move fence is = moved w (Edit.SetRows p rows ∷ Edit.Fence fence ∷ []) a reply h (omega arith) (lt, (tt, tt)) (ap (with_fence fence) (state-rows w p rows) ∙ sym is) kept refl tables-covered h.bases reply_is report_is
 
-  pub desk-move : (fence actor : ℕ) (desk : Desk) → actor < length w.desks → a.state ≡ with_fence fence (with_desk actor desk (with_rows p rows (state_of w)))
+  pub desk-move : (fence actor : ℕ) (desk : DeskTables) → actor < length w.desks → slice_get w.bases actor ≡ Some desk.batch → a.state ≡ with_fence fence (with_desk actor (desk_of desk) (with_rows p rows (state_of w)))
       → IsMove w a (record { edits = Edit.SetRows p rows ∷ Edit.Fence fence ∷ Edit.SetDesk actor desk ∷ []; reply = reply; report = [] })
-  desk-move fence actor desk there is = moved w (Edit.SetRows p rows ∷ Edit.Fence fence ∷ Edit.SetDesk actor desk ∷ []) a reply h (omega arith) (lt, (tt, (there, tt)))
-      (ap (λ (m : State). with_fence fence (with_desk actor desk m)) (state-rows w p rows) ∙ sym is) kept refl tables-covered reply_is report_is
+  desk-move fence actor desk there batch is = moved w (Edit.SetRows p rows ∷ Edit.Fence fence ∷ Edit.SetDesk actor desk ∷ []) a reply h (omega arith) (lt, (tt, (there, tt)))
+      (ap (λ (m : State). with_fence fence (with_desk actor (desk_of desk) m)) (state-rows w p rows) ∙ sym is) kept refl tables-covered (bases-kept w actor desk.batch h batch) reply_is report_is
 
 -- ---- what a call answers
 
@@ -56,6 +56,6 @@ pub ok-is : {A E : Type 0} (P : A → Type 0) (x : A) (r : Result A E) → IfOk 
 ok-is P x (Ok y) e h = subst P (sym e) h
 ok-is P x (Err e) k h = tt
 
--- what the desk that was read holds
-pub desk-held : (w : WorldTables) (actor : ℕ) (was : Desk) (held : List Held) → slice_get w.desks actor ≡ Some was → held ≡ was.held → held ≡ (desk_at (state_of w) actor).held
-desk-held w actor was held at is = is ∙ sym (ap (λ x. (option_or empty_desk x).held) at)
+-- the desk that was read
+pub desk-read : (w : WorldTables) (actor : ℕ) (was : DeskTables) → slice_get w.desks actor ≡ Some (desk_of was) → desk_at (state_of w) actor ≡ desk_of was
+desk-read w actor was at = ap (option_or empty_desk) at

@@ -39,7 +39,9 @@ pub(crate) fn claim_segment(
         segment,
         fence,
     };
-    let held = hold_fence(alloc, world.desk(actor).held.parts(), fresh)?;
-    let edits = desk_edits(alloc, world, actor, processor, rows, held, fence)?;
+    let desk = world.desk(actor);
+    let held = hold_fence(alloc, desk.held.parts(), fresh)?;
+    let desk = desk.with_held(alloc, held)?;
+    let edits = desk_edits(alloc, processor, rows, fence, actor, desk)?;
     Ok(Move::of(alloc, edits, Reply::Fenced { fence }))
 }

@@ -1,11 +1,9 @@
-ghost use Rattle.std.specs.Prelude.{◌≡◌, ◌<◌, [], ◌∷◌, length, IfOk};
-ghost use Rattle.ax_state.specs.State.{desk_at};
-ghost use Rattle.ax_world.specs.WorldTables.{state_of};
+ghost use Rattle.std.specs.Prelude.{◌≡◌, [], ◌∷◌, IfOk};
 ghost use Rattle.ax_world.specs.declared.edit.Edit.{Edit};
 
 use ax_claims::Rows;
 use ax_values::NoMemory;
-use ax_world::{Edit, Edits, HeldList, World};
+use ax_world::{Desk, Edit, Edits};
 use std::alloc::Global;
 
 /// The edits that put the rows of a processor in.
@@ -31,21 +29,17 @@ pub(crate) fn fenced_edits(
     Ok(edits)
 }
 
-/// The same, where the actor's desk holds other fences then.
+/// The same, and the actor's desk.
 pub(crate) fn desk_edits(
     alloc: Global,
-    world: &World,
-    actor: u32,
     processor: u32,
     rows: Rows,
-    held: HeldList,
     fence: u64,
+    actor: u32,
+    desk: Desk,
 ) -> Result<Edits, NoMemory>
-    requires { actor < length world.now.tables.setting.actors }
-    ensures { IfOk result (λ edits. edits ≡ Edit.SetRows processor rows ∷ Edit.Fence fence ∷ Edit.SetDesk actor (record (desk_at (state_of world.now.tables) actor) { held = held }) ∷ []) }
+    ensures { IfOk result (λ edits. edits ≡ Edit.SetRows processor rows ∷ Edit.Fence fence ∷ Edit.SetDesk actor desk ∷ []) }
 {
-    world.facts();
-    let desk = world.desk(actor).with_held(alloc, held)?;
     let mut edits = fenced_edits(alloc, processor, rows, fence)?;
     edits.push(Edit::SetDesk { actor, desk })?;
     Ok(edits)

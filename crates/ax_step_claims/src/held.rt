@@ -49,13 +49,14 @@ pub(crate) fn release_segment(
 {
     world.facts();
     let fence = world.fence() + 1;
-    let holding = world.desk(actor).held.parts();
-    let held = held_fence(holding, processor, segment);
+    let desk = world.desk(actor);
+    let held = held_fence(desk.held.parts(), processor, segment);
     let mut rows = world.rows(processor).copy(alloc)?;
     if let Err(refused) = rows.release(segment, held, fence) {
         return refusal(alloc, &rows, refused);
     }
-    let left = let_go(alloc, holding, processor, segment)?;
-    let edits = desk_edits(alloc, world, actor, processor, rows, left, fence)?;
+    let left = let_go(alloc, desk.held.parts(), processor, segment)?;
+    let desk = desk.with_held(alloc, left)?;
+    let edits = desk_edits(alloc, processor, rows, fence, actor, desk)?;
     Ok(Move::of(alloc, edits, Reply::Done))
 }

@@ -1,5 +1,6 @@
 -- What an append makes of a world.
 use Rattle.std.specs.Prelude.{◌≡◌, ℕ, suc, ◌+◌, ◌≤◌, ◌==◌, Bool, true, false, IfSome, List, [], ◌∷◌, length, map, Option, Some, None, slice_get, slice_set, if◌then◌else◌}
+use Rattle.std.specs.List.{AllByRecursion}
 use Rattle.std.proofs.Common.{refl, ap, ap₂, sym, ◌∙◌, subst, inl, arith}
 use Rattle.std.proofs.lemmas.Bool.Decides.{nat_tests}
 use Rattle.std.proofs.lemmas.Option.{slice_get_within}
@@ -13,15 +14,19 @@ use Rattle.ax_state.specs.Setting.{name_at}
 use Rattle.ax_state.specs.State.{Desk, Reservation, with_cells}
 use Rattle.ax_state.specs.Answer.{Answer, answer}
 use Rattle.ax_state.specs.WellFormed.{IsReservation}
+use Rattle.ax_state.specs.Batches.{IsBasisOf}
 use Rattle.ax_state.proofs.Fill.{fill-growth}
-use Rattle.ax_world.specs.WorldTables.{WorldTables, state_of}
+use Rattle.ax_state.proofs.Grow.{grows-growth}
+use Rattle.ax_state.proofs.Growth.{IsGrowth}
+use Rattle.ax_world.specs.WorldTables.{WorldTables, DeskTables, desk_of, state_of}
 use Rattle.ax_world.specs.EditsApplied.{edits_applied}
 use Rattle.ax_world.specs.Fits.{IsWorld, IsTable}
 use Rattle.ax_world.specs.Moves.{IsMove}
-use Rattle.ax_world.proofs.StepMoves.{moved, tables-grown}
+use Rattle.ax_world.proofs.StepMoves.{moved, tables-grown, bases-moved}
 use Rattle.ax_step_log.specs.Logging.{appended_unless, with_reservation, released}
 use Rattle.ax_step_log.specs.SendParts.{release_puts, void_puts}
 use Rattle.ax_step_log.proofs.Releases.{put-release, can-release, events-released}
+use Rattle.ax_step_log.proofs.Released.{grows-released}
 use Rattle.ax_step_log.proofs.AppendKept.{IsTaken, holds, within-held, number-held, takes-held, fill-taken, kept-taken, kept-released}
 use Rattle.ax_step_log.proofs.Sends.{desk-is}
 use Rattle.ax_values.specs.declared.cell.Cell.{Cell}
@@ -43,29 +48,29 @@ older-within w actor d h e = at d.reservation refl
 -- ---- both ends
 
 -- the edits that put cells, and empty the reservation of the desk
-state-emptied : (w : WorldTables) (actor : ℕ) (puts : List CellPut) (later : List Cell) (old new : Desk) → slice_get w.desks actor ≡ Some old → put_all puts w.cells ≡ later → new ≡ record old { reservation = None }
+state-emptied : (w : WorldTables) (actor : ℕ) (puts : List CellPut) (later : List Cell) (old new : DeskTables) → slice_get w.desks actor ≡ Some (desk_of old) → put_all puts w.cells ≡ later → new ≡ record old { reservation = None }
     → state_of (edits_applied (Edit.Cells puts ∷ Edit.SetDesk actor new ∷ []) w) ≡ with_reservation actor None (with_cells later (state_of w))
 state-emptied w actor puts later old new desk cells new_is =
-    ap₂ (λ (cs : List Cell) (d : Desk). record (state_of w) { cells = cs; desks = slice_set w.desks actor d }) cells (new_is ∙ ap (λ (d : Desk). record d { reservation = None }) (sym (desk-is w actor old desk)))
+    ap₂ (λ (cs : List Cell) (d : Desk). record (state_of w) { cells = cs; desks = slice_set w.desks actor d }) cells (ap desk_of new_is ∙ ap (λ (d : Desk). record d { reservation = None }) (sym (desk-is w actor (desk_of old) desk)))
 
 -- ---- the events are in the log
 
-pub move-taken : (w : WorldTables) (actor : ℕ) (r : Reservation) (seq count : ℕ) (puts : List CellPut) (old new : Desk) → IsWorld w → slice_get w.desks actor ≡ Some old → old.reservation ≡ Some r → GoesOn w.cells r.first r.records
+pub move-taken : (w : WorldTables) (actor : ℕ) (r : Reservation) (seq count : ℕ) (puts : List CellPut) (old new : DeskTables) → IsWorld w → slice_get w.desks actor ≡ Some (desk_of old) → slice_get w.bases actor ≡ Some old.batch → old.reservation ≡ Some r → GoesOn w.cells r.first r.records
     → puts ≡ puts_at r.first (map Cell.Event r.records) → CanPutAll w.cells puts → new ≡ record old { reservation = None } → seq ≡ r.first_seq → count ≡ length r.records
     → IsMove w (appended_unless (state_of w) actor r (void_among w.cells r.first r.records)) (record { edits = Edit.Cells puts ∷ Edit.SetDesk actor new ∷ []; reply = Reply.Appended seq count; report = [] })
-move-taken w actor r seq count puts old new h desk has goes puts_are can new_is seq_is count_is =
+move-taken w actor r seq count puts old new h desk batch has goes puts_are can new_is seq_is count_is =
     subst (λ (v : Option ℕ). IsMove w (appended_unless (state_of w) actor r v) (record { edits = Edit.Cells puts ∷ Edit.SetDesk actor new ∷ []; reply = reply; report = [] })) (sym goes.clear)
     (subst (λ (b : Bool). IsMove w (if b then done else answer (with_reservation actor None (with_cells (released (Some r) w.cells) (state_of w))) (Reply.Conflict r.first_seq (length_of (aggregate_of r.records) w.cells))) (record { edits = Edit.Cells puts ∷ Edit.SetDesk actor new ∷ []; reply = reply; report = [] })) (sym same)
-    (moved w (Edit.Cells puts ∷ Edit.SetDesk actor new ∷ []) done reply h (omega arith) (can, (slice_get_within w.desks actor old desk, tt)) (state-emptied w actor puts later old new desk cells new_is)
-    (kept-taken (state_of w) actor old r taken h.state) refl tables (ap₂ Reply.Appended seq_is count_is) refl))
+    (moved w (Edit.Cells puts ∷ Edit.SetDesk actor new ∷ []) done reply h (omega arith) (can, (slice_get_within w.desks actor (desk_of old) desk, tt)) (state-emptied w actor puts later old new desk cells new_is)
+    (kept-taken (state_of w) actor (desk_of old) r taken h.state) refl tables bases (ap₂ Reply.Appended seq_is count_is) refl))
   where
     mine : IsReservation w.cells (name_at w.setting.actors actor) r
-    mine = holds (state_of w) actor old r desk has h.state
+    mine = holds (state_of w) actor (desk_of old) r desk has h.state
 
     next : length_of (aggregate_of r.records) w.cells ≡ r.first_seq
     next = goes.next ∙ number-held w.cells (name_at w.setting.actors actor) r mine
 
-    taken : IsTaken (state_of w) actor old r
+    taken : IsTaken (state_of w) actor (desk_of old) r
     taken = record { desk = desk; has = has; clear = goes.clear; next = next }
 
     later : List Cell
@@ -85,22 +90,27 @@ move-taken w actor r seq count puts old new h desk has goes puts_are can new_is 
         ∙ put_all-puts_at (map Cell.Event r.records) r.first w.cells (let le : r.first + length r.records ≤ length w.cells = within-held w.cells (name_at w.setting.actors actor) r mine in omega arith)
 
     tables : AllFrom (IsTable w.setting (events (put_all puts w.cells))) 0 w.processor_tables
-    tables = subst (λ (cs : List Cell). AllFrom (IsTable w.setting (events cs)) 0 w.processor_tables) (sym cells)
-        (tables-grown w.setting w.cells later (fill-growth (aggregate_of r.records) r.first r.records w.cells (fill-taken (state_of w) actor old r taken h.state)) 0 w.processor_tables h.state.processors h.tables)
+    tables = subst (λ (cs : List Cell). AllFrom (IsTable w.setting (events cs)) 0 w.processor_tables) (sym cells) (tables-grown w.setting w.cells later growth 0 w.processor_tables h.state.processors h.tables)
+
+    growth : IsGrowth w.cells later
+    growth = fill-growth (aggregate_of r.records) r.first r.records w.cells (fill-taken (state_of w) actor (desk_of old) r taken h.state)
+
+    bases : AllByRecursion (λ o. IfSome o (IsBasisOf w.setting (put_all puts w.cells))) (slice_set w.bases actor new.batch)
+    bases = bases-moved w (put_all puts w.cells) later actor old.batch new.batch cells growth (ap (λ (d : DeskTables). d.batch) new_is) h batch
 
 -- ---- a conflict
 
-pub move-conflict : (w : WorldTables) (actor : ℕ) (r : Reservation) (expected found told_first told_length : ℕ) (puts : List CellPut) (old new : Desk) → IsWorld w → slice_get w.desks actor ≡ Some old → old.reservation ≡ Some r
+pub move-conflict : (w : WorldTables) (actor : ℕ) (r : Reservation) (expected found told_first told_length : ℕ) (puts : List CellPut) (old new : DeskTables) → IsWorld w → slice_get w.desks actor ≡ Some (desk_of old) → slice_get w.bases actor ≡ Some old.batch → old.reservation ≡ Some r
     → IsConflict w.cells r.first r.records expected found → puts ≡ release_puts w.cells (Some r) → new ≡ record old { reservation = None } → told_first ≡ expected → told_length ≡ found
     → IsMove w (appended_unless (state_of w) actor r (void_among w.cells r.first r.records)) (record { edits = Edit.Cells puts ∷ Edit.SetDesk actor new ∷ []; reply = Reply.Conflict told_first told_length; report = [] })
-move-conflict w actor r expected found told_first told_length puts old new h desk has conflict puts_are new_is first_is length_is =
+move-conflict w actor r expected found told_first told_length puts old new h desk batch has conflict puts_are new_is first_is length_is =
     subst (λ (v : Option ℕ). IsMove w (appended_unless (state_of w) actor r v) (record { edits = Edit.Cells puts ∷ Edit.SetDesk actor new ∷ []; reply = Reply.Conflict told_first told_length; report = [] })) (sym conflict.clear)
     (subst (λ (b : Bool). IsMove w (if b then answer (with_reservation actor None (with_cells (put_cells r.first (map Cell.Event r.records) w.cells) (state_of w))) (Reply.Appended r.first_seq (length r.records)) else done) (record { edits = Edit.Cells puts ∷ Edit.SetDesk actor new ∷ []; reply = Reply.Conflict told_first told_length; report = [] })) (sym differ)
-    (moved w (Edit.Cells puts ∷ Edit.SetDesk actor new ∷ []) done (Reply.Conflict told_first told_length) h (omega arith) (subst (CanPutAll w.cells) (sym puts_are) (can-release (Some r) w.cells h.state.log), (slice_get_within w.desks actor old desk, tt))
-    (state-emptied w actor puts (released (Some r) w.cells) old new desk cells new_is) (kept-released (state_of w) actor (Some r) h.state) refl tables (ap₂ Reply.Conflict (first_is ∙ first) (length_is ∙ conflict.found_is)) refl))
+    (moved w (Edit.Cells puts ∷ Edit.SetDesk actor new ∷ []) done (Reply.Conflict told_first told_length) h (omega arith) (subst (CanPutAll w.cells) (sym puts_are) (can-release (Some r) w.cells h.state.log), (slice_get_within w.desks actor (desk_of old) desk, tt))
+    (state-emptied w actor puts (released (Some r) w.cells) old new desk cells new_is) (kept-released (state_of w) actor (Some r) h.state) refl tables bases (ap₂ Reply.Conflict (first_is ∙ first) (length_is ∙ conflict.found_is)) refl))
   where
     first : expected ≡ r.first_seq
-    first = conflict.expected_is ∙ number-held w.cells (name_at w.setting.actors actor) r (holds (state_of w) actor old r desk has h.state)
+    first = conflict.expected_is ∙ number-held w.cells (name_at w.setting.actors actor) r (holds (state_of w) actor (desk_of old) r desk has h.state)
 
     done : Answer
     done = answer (with_reservation actor None (with_cells (released (Some r) w.cells) (state_of w))) (Reply.Conflict r.first_seq (length_of (aggregate_of r.records) w.cells))
@@ -118,6 +128,9 @@ move-conflict w actor r expected found told_first told_length puts old new h des
 
     tables : AllFrom (IsTable w.setting (events (put_all puts w.cells))) 0 w.processor_tables
     tables = subst (λ (xs : List Stored). AllFrom (IsTable w.setting xs) 0 w.processor_tables) (sym (ap (λ (cs : List Cell). events cs) cells ∙ events-released (Some r) w.cells)) h.tables
+
+    bases : AllByRecursion (λ o. IfSome o (IsBasisOf w.setting (put_all puts w.cells))) (slice_set w.bases actor new.batch)
+    bases = bases-moved w (put_all puts w.cells) (released (Some r) w.cells) actor old.batch new.batch cells (grows-growth w.cells (released (Some r) w.cells) (grows-released (Some r) w.cells)) (ap (λ (d : DeskTables). d.batch) new_is) h batch
 
 -- what is said of the cells and records that were passed is said of those that are meant
 pub passed : (P : List Cell → ℕ → List Record → Type 0) (cells later : List Cell) (first place : ℕ) (rs records : List Record) → cells ≡ later → first ≡ place → rs ≡ records → P cells first rs → P later place records

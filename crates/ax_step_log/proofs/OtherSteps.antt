@@ -1,21 +1,24 @@
 -- A tick, a void and a stop: each keeps what holds of every state, and its move is that of its definition.
-use Rattle.std.specs.Prelude.{◌≡◌, ℕ, ◌+◌, ◌-◌, ◌^◌, ◌<◌, ◌≤◌, min, Bool, true, false, List, [], ◌∷◌, length, Option, Some, None, Result, Ok, Err, slice_get, nat_lt, if◌then◌else◌}
+use Rattle.std.specs.Prelude.{◌≡◌, ℕ, ◌+◌, ◌-◌, ◌^◌, ◌<◌, ◌≤◌, min, Bool, true, false, List, [], ◌∷◌, length, Option, Some, None, IfSome, Result, Ok, Err, slice_get, nat_lt, if◌then◌else◌}
+use Rattle.std.specs.List.{AllByRecursion}
 use Rattle.std.proofs.Common.{refl, ap, sym, ◌∙◌, subst, arith}
 use Rattle.ax_log.specs.Log.{Stored, events, is_reserved, option_is}
 use Rattle.ax_log.specs.Puts.{put_all}
 use Rattle.ax_log.specs.Answers.{void_period, voiding}
 use Rattle.ax_log.proofs.Order.{can_void}
 use Rattle.ax_state.specs.Every.{AllFrom}
-use Rattle.ax_state.specs.State.{State, with_cells, empty_desk}
+use Rattle.ax_state.specs.State.{State, with_cells}
 use Rattle.ax_state.specs.Answer.{answer}
 use Rattle.ax_state.specs.WellFormed.{IsWellFormed}
 use Rattle.ax_state.proofs.Frames.{kept-clock}
 use Rattle.ax_state.proofs.Desks.{kept-empty}
-use Rattle.ax_state.proofs.Grow.{grows-events}
-use Rattle.ax_world.specs.WorldTables.{WorldTables, state_of}
+use Rattle.ax_state.specs.Batches.{IsBasisOf}
+use Rattle.ax_state.proofs.Bases.{bases-later}
+use Rattle.ax_state.proofs.Grow.{grows-events, grows-growth}
+use Rattle.ax_world.specs.WorldTables.{WorldTables, no_desk, state_of}
 use Rattle.ax_world.specs.Fits.{IsWorld, IsTable}
 use Rattle.ax_world.specs.Moves.{IsMove}
-use Rattle.ax_world.proofs.StepMoves.{moved, unmoved}
+use Rattle.ax_world.proofs.StepMoves.{moved, unmoved, bases-emptied}
 use Rattle.ax_step_log.specs.Logging.{later_by, tick, void_from, voided_cell, void, stop}
 use Rattle.ax_step_log.proofs.Released.{kept-voided, grows-void_from}
 use Rattle.ax_step_log.proofs.Releases.{put-voids}
@@ -31,7 +34,7 @@ pub kept-tick : (m : State) (ms : ℕ) → IsWellFormed m → IsWellFormed (tick
 kept-tick m ms h = kept-clock m (later_by ms m.clock) (let most : m.clock ≤ 10 ^ 18 = h.clock.limit in omega arith) (omega arith) h
 
 pub tick-move : (w : WorldTables) (ms now : ℕ) → IsWorld w → now ≡ later_by ms w.clock → IsMove w (tick (state_of w) ms) (record { edits = Edit.Clock now ∷ []; reply = Reply.Now now; report = [] })
-tick-move w ms now h is = rw is (moved w (Edit.Clock (later_by ms w.clock) ∷ []) (tick (state_of w) ms) (Reply.Now (later_by ms w.clock)) h (omega arith) (tt, tt) refl (kept-tick (state_of w) ms h.state) refl h.tables refl refl)
+tick-move w ms now h is = rw is (moved w (Edit.Clock (later_by ms w.clock) ∷ []) (tick (state_of w) ms) (Reply.Now (later_by ms w.clock)) h (omega arith) (tt, tt) refl (kept-tick (state_of w) ms h.state) refl h.tables h.bases refl refl)
 
 -- ---- void
 
@@ -56,7 +59,7 @@ voided-move : (w : WorldTables) (i : ℕ) → IsWorld w → option_is is_reserve
     → IsMove w (answer (with_cells (void_from i 1 w.cells) (state_of w)) (Reply.Voided i)) (record { edits = Edit.Cells (record { index = i; cell = Cell.Void } ∷ []) ∷ []; reply = Reply.Voided i; report = [] })
 voided-move w i h reserved =
     moved w (Edit.Cells puts ∷ []) (answer (with_cells (void_from i 1 w.cells) (state_of w)) (Reply.Voided i)) (Reply.Voided i) h (omega arith) ((can_void w.cells i reserved h.state.log, tt), tt)
-    (ap (λ (cs : List Cell). record (state_of w) { cells = cs }) cells) (kept-voided (state_of w) i 1 h.state) refl tables refl refl
+    (ap (λ (cs : List Cell). record (state_of w) { cells = cs }) cells) (kept-voided (state_of w) i 1 h.state) refl tables bases refl refl
   where
     puts : List CellPut
     puts = record { index = i; cell = Cell.Void } ∷ []
@@ -66,6 +69,10 @@ voided-move w i h reserved =
 
     tables : AllFrom (IsTable w.setting (events (put_all puts w.cells))) 0 w.processor_tables
     tables = subst (λ (xs : List Stored). AllFrom (IsTable w.setting xs) 0 w.processor_tables) (sym (ap (λ (cs : List Cell). events cs) cells ∙ grows-events 0 w.cells (void_from i 1 w.cells) (grows-void_from i 1 w.cells))) h.tables
+
+    bases : AllByRecursion (λ o. IfSome o (IsBasisOf w.setting (put_all puts w.cells))) w.bases
+    bases = subst (λ (cs : List Cell). AllByRecursion (λ o. IfSome o (IsBasisOf w.setting cs)) w.bases) (sym cells)
+        (bases-later w.cells (void_from i 1 w.cells) (grows-growth w.cells (void_from i 1 w.cells) (grows-void_from i 1 w.cells)) w.setting w.bases h.bases)
 
 pub void-move : (w : WorldTables) (i now : ℕ) (cells : List Cell) (r : Result CellPut LogFault) → IsWorld w → now ≡ w.clock → cells ≡ w.cells → r ≡ voiding i now (slice_get cells i) → IsVoidMove w i r
 void-move w i now cells r h clock same is = rw (is, clock, same) (by (slice_get w.cells i) refl)
@@ -91,8 +98,8 @@ void-move w i now cells r h clock same is = rw (is, clock, same) (by (slice_get 
 pub kept-stop : (m : State) (actor : ℕ) → IsWellFormed m → IsWellFormed (stop m actor).state
 kept-stop m actor h = kept-empty m actor h
 
-pub stop-move : (w : WorldTables) (actor : ℕ) → IsWorld w → actor < length w.setting.actors → IsMove w (stop (state_of w) actor) (record { edits = Edit.SetDesk actor empty_desk ∷ []; reply = Reply.Done; report = [] })
-stop-move w actor h lt = moved w (Edit.SetDesk actor empty_desk ∷ []) (stop (state_of w) actor) Reply.Done h (omega arith) (there, tt) refl (kept-stop (state_of w) actor h.state) refl h.tables refl refl
+pub stop-move : (w : WorldTables) (actor : ℕ) → IsWorld w → actor < length w.setting.actors → IsMove w (stop (state_of w) actor) (record { edits = Edit.SetDesk actor no_desk ∷ []; reply = Reply.Done; report = [] })
+stop-move w actor h lt = moved w (Edit.SetDesk actor no_desk ∷ []) (stop (state_of w) actor) Reply.Done h (omega arith) (there, tt) refl (kept-stop (state_of w) actor h.state) refl h.tables (bases-emptied w actor h) refl refl
   where
     there : actor < length w.desks
     there = let same : length w.desks ≡ length w.setting.actors = h.state.actors in omega arith

@@ -1,5 +1,5 @@
 ghost use Rattle.std.specs.Prelude.{◌≡◌, ◌<◌, Some, length, slice_get, IfOk};
-ghost use Rattle.ax_world.specs.WorldTables.{state_of};
+ghost use Rattle.ax_world.specs.WorldTables.{desk_of, state_of};
 ghost use Rattle.ax_world.specs.Moves.{IsMove};
 ghost use Rattle.ax_step_log.specs.Logging.{append, appended};
 
@@ -30,7 +30,8 @@ fn append_records(
     desk: &Desk,
     reservation: &Reservation,
 ) -> Result<Move, NoMemory>
-    requires desk { slice_get world.now.tables.desks actor ≡ Some desk.now }
+    requires desk { slice_get world.now.tables.desks actor ≡ Some (desk_of desk.now) }
+    requires batch { slice_get world.now.tables.bases actor ≡ Some desk.now.batch }
     requires reservation { desk.now.reservation ≡ Some reservation.now }
     ensures { IfOk result (IsMove world.now.tables (appended (state_of world.now.tables) actor (Some reservation.now))) }
 {

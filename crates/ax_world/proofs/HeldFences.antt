@@ -12,7 +12,7 @@ use Rattle.ax_state.specs.Every.{option_or}
 use Rattle.ax_state.specs.State.{State, ProcessorState, Held, Desk, desk_at, processor_state_at, empty_desk}
 use Rattle.ax_state.specs.Answer.{Answer}
 use Rattle.ax_state.specs.WellFormed.{IsWellFormed, IsDeskOf, OwnsAs}
-use Rattle.ax_world.specs.WorldTables.{WorldTables, state_of}
+use Rattle.ax_world.specs.WorldTables.{WorldTables, DeskTables, desk_of, state_of}
 use Rattle.ax_world.specs.Holding.{is_held_at, held_fence, held_check, checked, on_held_row}
 use Rattle.ax_journal.specs.declared.reply.Reply.{Reply}
 
@@ -54,5 +54,5 @@ module _ (m : State) (actor p : ℕ) (s : Segment) (next : TokenRow → Answer) 
   kept-on_held_row = kept-checked (held_fence p s (desk_at m actor).held) refl (row_at s (processor_state_at m p).rows) refl
 
 -- the fence that is held on the desk that was read
-pub held-desk : (w : WorldTables) (actor p : ℕ) (s : Segment) (old : Desk) (held : List Held) (o : Option ℕ) → slice_get w.desks actor ≡ Some old → held ≡ old.held → o ≡ held_fence p s held → o ≡ held_fence p s (desk_at (state_of w) actor).held
+pub held-desk : (w : WorldTables) (actor p : ℕ) (s : Segment) (old : DeskTables) (held : List Held) (o : Option ℕ) → slice_get w.desks actor ≡ Some (desk_of old) → held ≡ old.held → o ≡ held_fence p s held → o ≡ held_fence p s (desk_at (state_of w) actor).held
 held-desk w actor p s old held o at is e = e ∙ ap (held_fence p s) (is ∙ sym (ap (λ x. (option_or empty_desk x).held) at))

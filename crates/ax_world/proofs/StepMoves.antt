@@ -66,3 +66,10 @@ bases-emptied w actor h = All-set (λ o. IfSome o (IsBasisOf w.setting w.cells))
 -- the same over cells that have grown
 pub bases-kept-later : (w : WorldTables) (later : List Cell) (actor : ℕ) (o : Option Basis) → IsGrowth w.cells later → IsWorld w → slice_get w.bases actor ≡ Some o → AllByRecursion (λ o. IfSome o (IsBasisOf w.setting later)) (slice_set w.bases actor o)
 bases-kept-later w later actor o g h at = bases-later w.cells later g w.setting (slice_set w.bases actor o) (bases-kept w actor o h at)
+
+-- the same, by what the edits put
+pub bases-moved : (w : WorldTables) (got later : List Cell) (actor : ℕ) (was now : Option Basis) → got ≡ later → IsGrowth w.cells later → now ≡ was → IsWorld w → slice_get w.bases actor ≡ Some was
+    → AllByRecursion (λ o. IfSome o (IsBasisOf w.setting got)) (slice_set w.bases actor now)
+bases-moved w got later actor was now is g same h at =
+    subst (λ (cs : List Cell). AllByRecursion (λ o. IfSome o (IsBasisOf w.setting cs)) (slice_set w.bases actor now)) (sym is)
+    (subst (λ (o : Option Basis). AllByRecursion (λ o. IfSome o (IsBasisOf w.setting later)) (slice_set w.bases actor o)) (sym same) (bases-kept-later w later actor was g h at))
