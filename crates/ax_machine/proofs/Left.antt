@@ -1,5 +1,5 @@
 -- What each actor has left of its orders, and the orders that it performs next.
-use Rattle.std.proofs.Common.{◌≡◌, ℕ, zero, suc, ◌+◌, ◌<◌, List, [], ◌∷◌, length, drop, Option, Some, None, MatchOption, refl, ap, sym, ◌∙◌, arith, length-append}
+use Rattle.std.proofs.Common.{◌≡◌, ℕ, zero, suc, ◌+◌, ◌<◌, List, [], ◌∷◌, length, drop, Option, Some, None, refl, ap, sym, ◌∙◌, arith, length-append}
 use Rattle.std.specs.Prelude.{slice_get, slice_set}
 use Rattle.std.proofs.lemmas.List.{length-set}
 use Rattle.std.proofs.lemmas.Option.{slice_get_within}
@@ -28,13 +28,6 @@ first-there (x ∷ q) h = (x, refl)
 pub first-is : (q : List Order) (o : Order) → first_of q ≡ Some o → q ≡ o ∷ rest_of q
 first-is [] o e = absurd (cc)
 first-is (x ∷ q) o e = let is : x ≡ o = cc in ap (λ y. y ∷ q) is
-
--- what a step of an iterator over a list gives, and what it leaves
-pub first-step : (old new : List Order) (o : Option Order) → MatchOption o (length old ≡ 0) (λ x. old ≡ x ∷ new) → (o ≡ None → length new ≡ 0) → (o ≡ first_of old) × (new ≡ rest_of old)
-first-step [] [] None h k = (refl, refl)
-first-step [] (y ∷ new) None h k = absurd (omega (arith, k refl))
-first-step (x ∷ old) new None h k = absurd (omega (arith, h))
-first-step old new (Some x) h k = (ap first_of (sym h), ap rest_of (sym h))
 
 -- the queue of a number that stands there
 pub queue-there : (queues : List (List Order)) (a : ℕ) (queue : List Order) → slice_get queues a ≡ Some queue → queue_of queues a ≡ queue

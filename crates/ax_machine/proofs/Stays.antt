@@ -16,7 +16,7 @@ use Rattle.ax_world.specs.Holding.{checked, held_check, held_fence, on_held_row}
 use Rattle.ax_state.specs.Answer.{Answer, answer}
 use Rattle.ax_step_log.specs.Logging.{command_at, sent_decided, appended, appended_unless, with_reservation, reservation_of, reserved_cells, released as unreserved, void_from, voided_cell}
 use Rattle.ax_step_claims.specs.Claiming.{claimed, claimed_reply, granted, extended, released, halved, split_row, joined, merged_with}
-use Rattle.ax_step_work.specs.Working.{Failure, commit_batch, commit_over, committed, fetched, batch_of, first_failure, present_row, items_of_batch, with_batch}
+use Rattle.ax_step_work.specs.Working.{Told, commit_batch, commit_over, committed, fetched, fetched_batch, first_left, shares_in, with_batch}
 use Rattle.ax_values.specs.declared.cell.Cell.{Cell}
 use Rattle.ax_sheet.specs.declared.decision.Decided.{Decided}
 use Rattle.ax_journal.specs.declared.order.Order.{Order}
@@ -120,16 +120,16 @@ stays-merged m k p r (Some q) =
 
 -- ---- fetch and commit
 
-stays-committed : (m : State) (k : ℕ) (b : Batch) (r : TokenRow) (o : Option Failure) → Stays m (committed m k b r o)
+stays-committed : (m : State) (k : ℕ) (b : Batch) (r : TokenRow) (o : Option Told) → Stays m (committed m k b r o)
 stays-committed m k b r (Some f) = record { setting = refl; fence = same m.fence; unfailing = refl }
 stays-committed m k b r None = record { setting = refl; fence = same m.fence; unfailing = refl }
 
 stays-over : (m : State) (k : ℕ) (b : Batch) (o : Option TokenRow) → Stays m (commit_over m k b o)
 stays-over m k b None = record { setting = refl; fence = same m.fence; unfailing = refl }
 stays-over m k b (Some r) =
-    let failure = first_failure (projection_at m.setting b.processor) (present_row m b.processor) [] (items_of_batch m b) in
-    pick m (r.fence == b.fence) (committed m k b r failure) (answer (with_batch k None m) (Reply.Stale b.fence (Some r.fence)))
-    (stays-committed m k b r failure) (record { setting = refl; fence = same m.fence; unfailing = refl })
+    let left = first_left (projection_at m.setting b.processor) true (shares_in m b) in
+    pick m (r.fence == b.fence) (committed m k b r left) (answer (with_batch k None m) (Reply.Stale b.fence (Some r.fence)))
+    (stays-committed m k b r left) (record { setting = refl; fence = same m.fence; unfailing = refl })
 
 stays-batch : (m : State) (k : ℕ) (o : Option Batch) → Stays m (commit_batch m k o)
 stays-batch m k None = record { setting = refl; fence = same m.fence; unfailing = refl }
@@ -147,7 +147,7 @@ stays m k (Order.Split p s) h = stays-held m k (processor_number m.setting.proce
 stays m k (Order.Merge p s) h =
     stays-held m k (processor_number m.setting.processors p) s _ (λ r. stays-merged m k (processor_number m.setting.processors p) r (partner_row (partner s) (processor_state_at m (processor_number m.setting.processors p)).rows))
 stays m k (Order.Fetch p s most) h =
-    stays-held m k (processor_number m.setting.processors p) s (λ r. fetched m k (batch_of m (processor_number m.setting.processors p) s most r)) (λ r. record { setting = refl; fence = same m.fence; unfailing = refl })
+    stays-held m k (processor_number m.setting.processors p) s (λ r. fetched m k (fetched_batch m (processor_number m.setting.processors p) s most r)) (λ r. record { setting = refl; fence = same m.fence; unfailing = refl })
 stays m k Order.Commit h = stays-batch m k (desk_at m k).batch
 stays m k (Order.ShowRows p) h = record { setting = refl; fence = same m.fence; unfailing = refl }
 stays m k (Order.Tick ms) h = record { setting = refl; fence = same m.fence; unfailing = refl }

@@ -1,4 +1,5 @@
 use Rattle.std.proofs.Common.{[], ◌∙◌, sym, ap, subst}
+use Rattle.ax_world.specs.WorldTables.{DeskTables}
 use Rattle.ax_world.specs.Moves.{IsMove}
 use Rattle.ax_world.proofs.HeldFences.{held-desk}
 use Rattle.ax_world.proofs.ProcessorStates.{place-declared}
