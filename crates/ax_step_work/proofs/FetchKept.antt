@@ -23,7 +23,7 @@ use Rattle.ax_state.proofs.Frames.{seat-at, place-there, place-at}
 use Rattle.ax_state.proofs.Desks.{kept-batch, batch-here}
 use Rattle.ax_world.specs.Holding.{held_fence}
 use Rattle.ax_world.proofs.HeldFences.{held-owned, kept-on_held_row}
-use Rattle.ax_step_work.specs.Working.{is_new, new_below, is_fetchable, largest, fetch_limit, fetch_bound, batch_of, fetched, fetch_at}
+use Rattle.ax_step_work.specs.Working.{is_new, new_below, is_fetchable, largest, fetch_limit, fetch_bound, fetched_batch, fetched, fetch_at}
 use Rattle.ax_step_work.proofs.Advancing.{token-advanced, advance-adds, advanced-none}
 use Rattle.ax_step_work.proofs.Bounds.{limit-within}
 use Rattle.ax_step_work.proofs.Covering.{rising-stream, settled-stream, prefix-grows, same-tests}
@@ -91,7 +91,7 @@ module _ (m : State) (actor p : ℕ) (s : Segment) (most : ℕ) (r : TokenRow) (
   within = let a : bound ≤ fetch_limit whole m.cells = largest-within test (fetch_limit whole m.cells) in let b : fetch_limit whole m.cells ≤ length m.cells = limit-within whole m.cells in omega arith
 
   abbrev b : Batch
-  b = batch_of m p s most r
+  b = fetched_batch m p s most r
 
   covers-new : (h i : ℕ) → covers b.new s.mask h i ≡ (covers r.token s.mask h i || settles m.cells bound i)
   covers-new h i = covers-collapsed (advanced m.cells bound r.token) s.mask h i ∙ covers-advanced m.cells bound r.token s.mask h i
@@ -126,4 +126,4 @@ module _ (m : State) (actor p : ℕ) (s : Segment) (most : ℕ) (r : TokenRow) (
 -- ---- the step
 
 pub kept-fetch : (m : State) (actor p : ℕ) (s : Segment) (most : ℕ) → IsTrue (is_projection m.setting p) → IsWellFormed m → IsWellFormed (fetch_at m actor p s most).state
-kept-fetch m actor p s most projection h = kept-on_held_row m actor p s (λ r. fetched m actor (batch_of m p s most r)) h (λ r f held. kept-fetched m actor p s most r f h projection held)
+kept-fetch m actor p s most projection h = kept-on_held_row m actor p s (λ r. fetched m actor (fetched_batch m p s most r)) h (λ r f held. kept-fetched m actor p s most r f h projection held)

@@ -18,7 +18,8 @@ use Rattle.ax_world.specs.Fits.{IsWorld}
 use Rattle.ax_world.specs.Moves.{IsMove}
 use Rattle.ax_world.proofs.StepMoves.{unmoved, moved}
 use Rattle.ax_world.proofs.ProcessorStates.{processor_state-place}
-use Rattle.ax_step_work.specs.Working.{is_fetched, batch_of, fetched, fetch_at, fetched_token}
+use Rattle.ax_state.specs.Batches.{is_fetched}
+use Rattle.ax_step_work.specs.Working.{fetched_batch, fetched, fetch_at, fetched_token}
 use Rattle.ax_step_work.proofs.FetchKept.{kept-fetched}
 use Rattle.ax_step_work.proofs.NotWhole.{not-whole}
 use Rattle.ax_world.specs.declared.edit.Edit.{Edit}
@@ -35,13 +36,13 @@ pub fetch-move : (w : WorldTables) (actor p most : ℕ) (row : TokenRow) (old ne
     → row_at row.segment (rows_at w p) ≡ Some row → held_fence p row.segment (desk_at (state_of w) actor).held ≡ Some row.fence → slice_get w.desks actor ≡ Some old → cells ≡ w.cells → t ≡ row.token
     → n ≡ fetched_token None row.segment row.token cells most → new ≡ record old { batch = Some (record { processor = p; segment = row.segment; fence = row.fence; old = t; new = n }) }
     → records ≡ length (filter (is_fetched None row.segment row.token n) (events cells))
-    → IsMove w (fetched (state_of w) actor (batch_of (state_of w) p row.segment most row)) (record { edits = Edit.SetDesk actor new ∷ []; reply = Reply.Fetched records; report = [] })
+    → IsMove w (fetched (state_of w) actor (fetched_batch (state_of w) p row.segment most row)) (record { edits = Edit.SetDesk actor new ∷ []; reply = Reply.Fetched records; report = [] })
 fetch-move w actor p most row old new t n cells records h projection lt found held at cells_are t_is n_is new_is records_are =
     moved w (Edit.SetDesk actor new ∷ []) (fetched (state_of w) actor b) (Reply.Fetched records) h (omega arith) ((let seats : length w.desks ≡ length w.setting.actors = h.state.actors in omega arith), tt) state
     (kept-fetched (state_of w) actor p row.segment most row (ap (λ (x : ProcessorState). row_at row.segment x.rows) (processor_state-place w p) ∙ found) h.state projection held) refl h.tables reply refl
   where
     b : Batch
-    b = batch_of (state_of w) p row.segment most row
+    b = fetched_batch (state_of w) p row.segment most row
 
     n_new : n ≡ fetched_token (whole_at w.setting p) row.segment row.token w.cells most
     n_new = n_is ∙ ap (λ cs. fetched_token None row.segment row.token cs most) cells_are ∙ ap (λ o. fetched_token o row.segment row.token w.cells most) (sym (not-whole w.setting p))
@@ -74,14 +75,14 @@ refused-fetch w actor p s most o x refusal h e f k =
     (unmoved w refusal h)
   where
     next : TokenRow → Answer
-    next r = fetched (state_of w) actor (batch_of (state_of w) p s most r)
+    next r = fetched (state_of w) actor (fetched_batch (state_of w) p s most r)
 
 -- ---- a row whose fence is held
 
 pub record IsHeldRow (w : WorldTables) (actor p : ℕ) (s : Segment) (most : ℕ) (row : TokenRow) : Type 0 where
   pub found : row_at row.segment (rows_at w p) ≡ Some row
   pub held : held_fence p row.segment (desk_at (state_of w) actor).held ≡ Some row.fence
-  pub is : fetched (state_of w) actor (batch_of (state_of w) p row.segment most row) ≡ fetch_at (state_of w) actor p s most
+  pub is : fetched (state_of w) actor (fetched_batch (state_of w) p row.segment most row) ≡ fetch_at (state_of w) actor p s most
 
 held-by : (o : Option ℕ) (r : TokenRow) → held_check o (Some r) ≡ None → o ≡ Some r.fence
 held-by None r h = absurd (cc)
@@ -96,7 +97,7 @@ pub held-row : (w : WorldTables) (actor p : ℕ) (s : Segment) (most : ℕ) (o :
 held-row w actor p s most o x row e f g k = record {
   found = ap (λ t. row_at t (rows_at w p)) segment ∙ found;
   held = ap (λ t. held_fence p t (desk_at (state_of w) actor).held) segment ∙ held;
-  is = ap (λ t. fetched (state_of w) actor (batch_of (state_of w) p t most row)) segment ∙ sym whole;
+  is = ap (λ t. fetched (state_of w) actor (fetched_batch (state_of w) p t most row)) segment ∙ sym whole;
 }
   where
     found : row_at s (rows_at w p) ≡ Some row
@@ -112,12 +113,12 @@ held-row w actor p s most o x row e f g k = record {
     held = sym e ∙ held_is
 
     next : TokenRow → Answer
-    next r = fetched (state_of w) actor (batch_of (state_of w) p s most r)
+    next r = fetched (state_of w) actor (fetched_batch (state_of w) p s most r)
 
     rows : row_at s (processor_state_at (state_of w) p).rows ≡ Some row
     rows = ap (λ (x : ProcessorState). row_at s x.rows) (processor_state-place w p) ∙ found
 
-    whole : fetch_at (state_of w) actor p s most ≡ fetched (state_of w) actor (batch_of (state_of w) p s most row)
+    whole : fetch_at (state_of w) actor p s most ≡ fetched (state_of w) actor (fetched_batch (state_of w) p s most row)
     whole =
         ap (λ o. checked (state_of w) (held_check o (row_at s (processor_state_at (state_of w) p).rows)) (row_at s (processor_state_at (state_of w) p).rows) next) (sym e)
         ∙ ap (λ x. checked (state_of w) (held_check o x) x next) (rows ∙ sym g)

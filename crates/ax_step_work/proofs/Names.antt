@@ -98,7 +98,7 @@ any-with a known (n ∷ ns) =
 pub any-names : (a : Name) (ns : List Name) → list_any (same_name a) (rising_names ns) ≡ list_any (same_name a) ns
 any-names a ns = any-with a [] ns
 
-all-any : (ms : List Name) → AllByRecursion (λ a. list_any (same_name a) ms ≡ true) ms
+pub all-any : (ms : List Name) → AllByRecursion (λ a. list_any (same_name a) ms ≡ true) ms
 all-any [] = tt
 all-any (m ∷ ms) = (
   ap (λ b. b || list_any (same_name m) ms) (name-refl m),

@@ -121,8 +121,8 @@ module _ (member : Name → Member) where
 
 -- ---- these are the shares of a batch
 
-module _ (b : Batch) (member : Name → Member) where
-  abbrev items : List Placed → List BasisItem
+module _ (b : Batch) where
+  abbrev pub items : List Placed → List BasisItem
   items xs = map (basis_item None b) xs
 
   pub names-same : (xs : List Placed) → item_names (items xs) ≡ map (λ x. x.item.name.aggregate) xs
@@ -153,18 +153,19 @@ module _ (b : Batch) (member : Name → Member) where
       at true k again = ap (λ n. names_with (n ∷ []) (map (λ x. x.item.name.aggregate) (sequence_items None a xs))) (name-is x.item.name.aggregate a k) ∙ name-stays a (map (λ x. x.item.name.aggregate) (sequence_items None a xs)) (own-names a xs)
       at false k again = again (sym (ap (λ c. c || list_any (same_name a) (map (λ x. x.item.name.aggregate) xs)) (name-sym a x.item.name.aggregate ∙ k)) ∙ h)
 
+module _ (b : Batch) (member : Name → Member) where
   map-all : (f g : Name → Share) (ns : List Name) → AllByRecursion (λ a. f a ≡ g a) ns → map f ns ≡ map g ns
   map-all f g [] h = refl
   map-all f g (n ∷ ns) h = ap (λ s. s ∷ map f ns) h.0 ∙ ap (λ ss. g n ∷ ss) (map-all f g ns h.1)
 
-  pub shares-single : (xs : List Placed) → shares_among None b member xs ≡ single_shares member (items xs)
+  pub shares-single : (xs : List Placed) → shares_among None b member xs ≡ single_shares member (items b xs)
   shares-single xs =
-      map-all (λ a. share_of_items None b member a (sequence_items None a xs)) (single_of member (items xs)) (rising_names (map (λ x. x.item.name.aggregate) xs))
-      (All-map (λ a. list_any (same_name a) (map (λ x. x.item.name.aggregate) xs) ≡ true) (λ a. share_of_items None b member a (sequence_items None a xs) ≡ single_of member (items xs) a) (λ a h. same a h)
+      map-all (λ a. share_of_items None b member a (sequence_items None a xs)) (single_of member (items b xs)) (rising_names (map (λ x. x.item.name.aggregate) xs))
+      (All-map (λ a. list_any (same_name a) (map (λ x. x.item.name.aggregate) xs) ≡ true) (λ a. share_of_items None b member a (sequence_items None a xs) ≡ single_of member (items b xs) a) (λ a h. same a h)
       (rising_names (map (λ x. x.item.name.aggregate) xs)) (names-given (map (λ x. x.item.name.aggregate) xs)))
-      ∙ ap (λ ns. map (single_of member (items xs)) (rising_names ns)) (sym (names-same xs))
+      ∙ ap (λ ns. map (single_of member (items b xs)) (rising_names ns)) (sym (names-same b xs))
     where
-      same : (a : Name) → list_any (same_name a) (map (λ x. x.item.name.aggregate) xs) ≡ true → share_of_items None b member a (sequence_items None a xs) ≡ single_of member (items xs) a
+      same : (a : Name) → list_any (same_name a) (map (λ x. x.item.name.aggregate) xs) ≡ true → share_of_items None b member a (sequence_items None a xs) ≡ single_of member (items b xs) a
       same a h =
-          ap (λ ns. record { sequence = a; parked = false; members = map member ns; items = items (sequence_items None a xs) }) (one-name a xs h)
-          ∙ ap (single member a) (sym (own-same a xs))
+          ap (λ ns. record { sequence = a; parked = false; members = map member ns; items = items b (sequence_items None a xs) }) (one-name b a xs h)
+          ∙ ap (single member a) (sym (own-same b a xs))
