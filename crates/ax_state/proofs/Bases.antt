@@ -1,10 +1,10 @@
 -- Bases of batches over cells that grow: they stay bases of the log.
-use Rattle.std.specs.Prelude.{◌≡◌, ℕ, Bool, true, false, not, ◌&&◌, IfSome, List, [], ◌∷◌, flat_map, Option}
+use Rattle.std.specs.Prelude.{◌≡◌, not, ◌&&◌, IfSome, List, flat_map, Option}
 use Rattle.std.specs.List.{AllByRecursion}
-use Rattle.std.proofs.Common.{refl, sym, ap, ◌∙◌, subst}
+use Rattle.std.proofs.Common.{sym, ap, ◌∙◌}
 use Rattle.ax_laws.proofs.Tests.{both}
 use Rattle.ax_values.specs.Grammar.{Name}
-use Rattle.ax_log.specs.Log.{Stored, events, is_settled}
+use Rattle.ax_log.specs.Log.{Stored, events}
 use Rattle.ax_segments.specs.Segments.{matches}
 use Rattle.ax_segments.specs.Sequences.{hash_in}
 use Rattle.ax_tokens.specs.Tokens.{covers}
@@ -13,7 +13,7 @@ use Rattle.ax_projections.specs.Items.{placed_items}
 use Rattle.ax_state.specs.Setting.{Setting, whole_at, projection_at}
 use Rattle.ax_state.specs.State.{Batch}
 use Rattle.ax_state.specs.WellFormed.{IsTokenOver}
-use Rattle.ax_state.specs.Batches.{IsBasisOf, batch_of, is_fetched, fetched_events, known_events, one_portion, shares_of, batch_items, shares_among, member_by, member_of}
+use Rattle.ax_state.specs.Batches.{IsBasisOf, batch_of, fetched_events, known_events, one_portion, batch_items, shares_among, member_by, member_of}
 use Rattle.ax_state.proofs.Growth.{IsGrowth, token-later, covered-later, covers-settled}
 use Rattle.ax_state.proofs.Lists.{All-map, IfSome-map}
 use Rattle.ax_values.specs.declared.cell.Cell.{Cell}

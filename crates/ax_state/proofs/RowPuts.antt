@@ -13,7 +13,7 @@ use Rattle.ax_state.specs.Every.{count}
 use Rattle.ax_state.specs.State.{ProcessorState}
 use Rattle.ax_state.specs.Portions.{Portion, portion_of, portions}
 use Rattle.ax_state.specs.WellFormed.{AreParts, IsFencedProcessor, fence_count}
-use Rattle.ax_state.proofs.Lists.{All-map, All-set, All-get, count-none}
+use Rattle.ax_state.proofs.Lists.{All-map, All-set, count-none}
 
 -- ---- rows and their portions
 

@@ -1,5 +1,5 @@
 -- What a batch is handled from: its items by sequence, and what the log says of their aggregates.
-use Rattle.std.specs.Prelude.{◌≡◌, ℕ, Bool, true, false, not, ◌&&◌, List, [], ◌∷◌, map, filter, flat_map, Option, None}
+use Rattle.std.specs.Prelude.{◌≡◌, Bool, true, false, not, ◌&&◌, List, [], ◌∷◌, map, filter, flat_map, Option, None}
 use Rattle.ax_values.specs.Grammar.{Name}
 use Rattle.ax_values.specs.Words.{same_name, name_cmp, insert_rising, sequence_in}
 use Rattle.ax_log.specs.Log.{Stored, events}

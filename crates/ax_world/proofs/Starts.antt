@@ -44,7 +44,12 @@ starts-world s commands h = record {
   bases = bases-none s s.actors;
 }
 
+-- what the starting world is made from
+pub starting-is : (s : Setting) (fence : ℕ) (cells : List Cell) (processor_tables : List ProcessorTables) (desks : List DeskTables) → fence ≡ row_count s.processors → cells ≡ [] → processor_tables ≡ map bare (first_processors s.processors 1) → desks ≡ map (λ actor. no_desk) s.actors
+    → record { setting = s; clock = 0; fence = fence; cells = cells; processor_tables = processor_tables; desks = map desk_of desks; bases = map (λ d. d.batch) desks } ≡ starting s
+starting-is s fence cells processor_tables desks f c p d =
+    rw (f, c, p, ap (map desk_of) d ∙ desks-empty s.actors, ap (map (λ (x : DeskTables). x.batch)) d ∙ bases-empty s.actors) refl
+
 pub started : (s : Setting) (fence : ℕ) (cells : List Cell) (processor_tables : List ProcessorTables) (desks : List DeskTables) → fence ≡ row_count s.processors → cells ≡ [] → processor_tables ≡ map bare (first_processors s.processors 1) → desks ≡ map (λ actor. no_desk) s.actors
     → AreCommands s.sheet → IsSetting s → IsWorld (record { setting = s; clock = 0; fence = fence; cells = cells; processor_tables = processor_tables; desks = map desk_of desks; bases = map (λ d. d.batch) desks })
-started s fence cells processor_tables desks f c p d commands h =
-    rw (f, c, p, ap (map desk_of) d ∙ desks-empty s.actors, ap (map (λ (x : DeskTables). x.batch)) d ∙ bases-empty s.actors) (starts-world s commands h)
+started s fence cells processor_tables desks f c p d commands h = subst IsWorld (sym (starting-is s fence cells processor_tables desks f c p d)) (starts-world s commands h)
