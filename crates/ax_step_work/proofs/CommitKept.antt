@@ -1,5 +1,5 @@
 -- A commit keeps what holds of every state.
-use Rattle.std.proofs.Common.{◌≡◌, ℕ, zero, suc, ◌<◌, ◌≤◌, ◌==◌, ◌&&◌, Bool, true, false, not, IsTrue, List, [], ◌∷◌, ◌++◌, map, filter, flat_map, length, Option, Some, None, Result, Ok, Err, slice_get, slice_set, if◌then◌else◌, refl, sym, ap, ◌∙◌, subst, arith}
+use Rattle.std.proofs.Common.{◌≡◌, ℕ, zero, suc, ◌<◌, ◌≤◌, ◌==◌, ◌&&◌, Bool, true, false, not, IsTrue, List, [], ◌∷◌, ◌++◌, filter, flat_map, length, Option, Some, None, Result, Ok, Err, slice_get, slice_set, if◌then◌else◌, refl, sym, ap, ◌∙◌, subst, arith}
 use Rattle.std.specs.Prelude.{IfSome, IsOk}
 use Rattle.std.specs.List.{AllByRecursion, list_any}
 use Rattle.std.proofs.lemmas.Bool.Decides.{nat_tests}
@@ -16,7 +16,6 @@ use Rattle.ax_segments.specs.Sequences.{hash_in}
 use Rattle.ax_segments.proofs.HashLaws.{hash_in-small}
 use Rattle.ax_tokens.specs.Tokens.{covers}
 use Rattle.ax_projections.specs.Items.{Placed, placed_items, plain_items}
-use Rattle.ax_projections.proofs.RebuildLaws.{items-own}
 use Rattle.ax_claims.specs.Rows.{TokenRow, row_at, put_row}
 use Rattle.ax_claims.proofs.RowPlaces.{get-within}
 use Rattle.ax_sheet.specs.Declarations.{names_differ}
@@ -33,14 +32,14 @@ use Rattle.ax_state.proofs.Prefixes.{same-filter, covered-stream, same-row}
 use Rattle.ax_state.proofs.Actors.{same-actor}
 use Rattle.ax_state.proofs.Frames.{seat-at, batch-at, batch-owned, place-there, place-at, place-put, kept-held-row}
 use Rattle.ax_state.proofs.Desks.{kept-emptied}
-use Rattle.ax_state.specs.Batches.{fetched_events, batch_items, shares_of, member_of, basis_item, known_events}
+use Rattle.ax_state.specs.Batches.{batch_items, shares_of, member_of, known_events}
 use Rattle.ax_step_work.specs.Working.{Told, items_of_batch, shares_in, first_left, installed, committed, commit_over, commit_batch, commit, with_batch}
 use Rattle.ax_step_work.specs.Sharing.{member_at, item_names, is_item_of, single_shares}
 use Rattle.ax_step_work.proofs.Advancing.{advanced-keeps}
 use Rattle.ax_step_work.proofs.Folding.{share_of, row_behind, present_row, covered-split, row-now, fold-append}
-use Rattle.ax_step_work.proofs.Known.{share-stream, none-taken, none-placed, taken-matches, known-items, value_by, value-same, placed_names}
+use Rattle.ax_step_work.proofs.Known.{share-stream, none-taken, none-placed, taken-matches, known-items, value_by, value-same}
 use Rattle.ax_step_work.proofs.Singles.{items, names-same, own-same, shares-single}
-use Rattle.ax_step_work.proofs.Outcomes.{Fold, fold-at, only_items}
+use Rattle.ax_step_work.proofs.Outcomes.{fold-at, only_items}
 use Rattle.ax_step_work.proofs.NotWhole.{not-whole, not-both-kinds}
 use Rattle.ax_rules.specs.declared.cause.Cause.{Cause}
 use Rattle.ax_basis.specs.declared.item.BasisItem.{BasisItem}
@@ -94,6 +93,10 @@ items-added whole chain es rows k r n b parts prefixes at seg old same new more 
 
 ok-is : (o : Result Row Cause) (made : Row) → o ≡ Ok made → IsOk o
 ok-is o made e = subst IsOk (sym e) refl
+
+pub unmarked : (b : Batch) (ys : List Placed) → AllByRecursion (λ x. x.marked ≡ false) (items b ys)
+unmarked b [] = tt
+unmarked b (y ∷ ys) = (refl, unmarked b ys)
 
 -- the items of an aggregate, with their places and as they are handled
 pub folded-same : (rules : Rules) (b : Batch) (a : Name) (xs : List Placed) (row : Row) → fold_from rules (only_items (filter (is_item_of a) (items b xs))) row ≡ fold_from rules (plain_items (share_of a xs)) row
@@ -202,10 +205,6 @@ module _ (m : State) (actor : ℕ) (b : Batch) (r : TokenRow) (found : row_at b.
   abbrev value : Name → Positioned
   value a = value_by rules chain (known_events None b (events m.cells)) a
 
-  unmarked : (ys : List Placed) → AllByRecursion (λ x. x.marked ≡ false) (items b ys)
-  unmarked [] = tt
-  unmarked (y ∷ ys) = (refl, unmarked ys)
-
   pub shares-are : shares_in m b ≡ single_shares (λ a. member_at a (value a)) taken_items
   shares-are = ap (λ o. shares_of o rules chain b (events m.cells)) (not-whole m.setting b.processor) ∙ shares-single b (member_of None rules chain b (events m.cells)) (batch_items None chain b (events m.cells))
 
@@ -231,7 +230,7 @@ module _ (m : State) (actor : ℕ) (b : Batch) (r : TokenRow) (found : row_at b.
     where
       by : (c : Bool) → list_any (same_name a) (item_names taken_items) ≡ c → IsOk (row_behind rules (present_row m b.processor) xs a)
       by true h =
-          let f = fold-at rules value taken_items (unmarked (batch_items None chain b (events m.cells))) (ap (first_left rules true) (sym shares-are) ∙ none) a h in
+          let f = fold-at rules value taken_items (unmarked b (batch_items None chain b (events m.cells))) (ap (first_left rules true) (sym shares-are) ∙ none) a h in
           ok-is (row_behind rules (present_row m b.processor) xs a) f.made
           (ap (λ ys. row_behind rules (present_row m b.processor) ys a) xs-are
           ∙ sym (folded-same rules b a (batch_items None chain b (events m.cells)) (present_row m b.processor a))

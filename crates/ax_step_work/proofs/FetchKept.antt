@@ -1,21 +1,18 @@
 -- A fetch keeps what holds of every state.
-use Rattle.std.proofs.Common.{◌≡◌, ℕ, zero, suc, ◌≤◌, ◌==◌, ◌&&◌, ◌||◌, Bool, true, false, IsTrue, List, [], ◌∷◌, find, length, Option, Some, None, slice_get, if◌then◌else◌, refl, ap, ◌∙◌, subst, arith, nat_lt, nat_le}
-use Rattle.std.specs.Prelude.{option_map}
-use Rattle.std.specs.List.{AllByRecursion}
+use Rattle.std.proofs.Common.{◌≡◌, ℕ, zero, suc, ◌≤◌, ◌&&◌, ◌||◌, Bool, true, false, IsTrue, List, [], ◌∷◌, length, Option, Some, slice_get, if◌then◌else◌, refl, ap, ◌∙◌, subst, arith, nat_lt, nat_le}
 use Rattle.std.proofs.lemmas.Bool.Decides.{nat_tests}
 use Rattle.ax_values.specs.Grammar.{Name}
 use Rattle.ax_laws.proofs.Tests.{both, and-false, and-swap}
 use Rattle.ax_log.specs.Log.{Stored, events, stream_in, is_settled}
-use Rattle.ax_segments.specs.Segments.{Segment, same_segment}
+use Rattle.ax_segments.specs.Segments.{Segment}
 use Rattle.ax_segments.specs.Sequences.{hash_in}
 use Rattle.ax_tokens.specs.Plain.{settles}
 use Rattle.ax_tokens.specs.Tokens.{advanced, covers, gaps_fit}
 use Rattle.ax_tokens.proofs.Changes.{covers-advanced, covers-collapsed}
 use Rattle.ax_claims.specs.Rows.{TokenRow, row_at}
-use Rattle.ax_claims.proofs.RowPlaces.{same-segment}
 use Rattle.ax_state.specs.Setting.{is_projection, whole_at}
-use Rattle.ax_state.specs.State.{State, ProcessorState, Held, Desk, Batch, desk_at, processor_state_at, actor_name}
-use Rattle.ax_state.specs.WellFormed.{IsWellFormed, IsDeskOf, IsProcessorState, IsTokenOver, TokenPrefix, IsStanding, OwnsAs, is_prefix_test}
+use Rattle.ax_state.specs.State.{State, Batch, desk_at, processor_state_at, actor_name}
+use Rattle.ax_state.specs.WellFormed.{IsWellFormed, IsProcessorState, IsTokenOver, TokenPrefix, IsStanding, is_prefix_test}
 use Rattle.ax_state.proofs.Lists.{All-map, All-get}
 use Rattle.ax_state.proofs.RowPuts.{found-row, All-rows}
 use Rattle.ax_state.proofs.Coverage.{prefix-here}
@@ -28,7 +25,6 @@ use Rattle.ax_step_work.proofs.Advancing.{token-advanced, advance-adds, advanced
 use Rattle.ax_step_work.proofs.Bounds.{limit-within}
 use Rattle.ax_step_work.proofs.Covering.{rising-stream, settled-stream, prefix-grows, same-tests}
 use Rattle.ax_step_work.proofs.NotWhole.{gaps-allowed}
-use Rattle.ax_journal.specs.declared.reply.Reply.{Reply}
 
 -- ---- the bound
 
@@ -60,7 +56,7 @@ module _ (m : State) (actor p : ℕ) (s : Segment) (most : ℕ) (r : TokenRow) (
   place : (k : ℕ) × (slice_get rows k ≡ Some r) × (r.segment ≡ s)
   place = found-row s rows r found
 
-  over : IsTokenOver m.cells s.mask r.token
+  pub over : IsTokenOver m.cells s.mask r.token
   over = subst (λ (t : Segment). IsTokenOver m.cells t.mask r.token) place.2
       (All-get (λ x. IsTokenOver m.cells x.segment.mask x.token) rows place.0 r (All-rows (λ x. IsTokenOver m.cells x.segment.mask x.token) rows was.tokens) place.1)
 
@@ -109,7 +105,7 @@ module _ (m : State) (actor p : ℕ) (s : Segment) (most : ℕ) (r : TokenRow) (
           ∙ ap (λ c. covers r.token s.mask (hash_in whole a) i || (nat_lt i bound && c)) settled
           ∙ ap (λ c. covers r.token s.mask (hash_in whole a) i || c) (and-swap (nat_lt i bound) true)
 
-  standing : IsTrue (is_projection m.setting p) → IsStanding m.setting m.cells b r.token
+  pub standing : IsTrue (is_projection m.setting p) → IsStanding m.setting m.cells b r.token
   standing projection = record {
     old = refl;
     new = advance-adds m.cells bound within r.token over.each;

@@ -9,8 +9,10 @@ pub mod Tables
 pub mod Outcomes
 pub mod Known
 pub mod CommitKept
+pub mod Standing
+pub mod KeptRows
 pub mod Reached
 pub mod Bounds
 pub mod Fetches
-pub mod Commits
+
 pub mod NotWhole

@@ -75,9 +75,9 @@ stale_reply Refused.Alone = Reply.Alone
 -- ---- desks
 
 -- the actor's desk without its batch
-pub record IsCleared (w : WorldTables) (actor : ℕ) (desk : DeskTables) : Type 0 where
-  pub desk : desk_of desk ≡ record (desk_at (state_of w) actor) { batch = None }
-  pub batch : desk.batch ≡ None
+pub record IsCleared (w : WorldTables) (actor : ℕ) (d : DeskTables) : Type 0 where
+  pub desk : desk_of d ≡ record (desk_at (state_of w) actor) { batch = None }
+  pub batch : d.batch ≡ None
 
 -- ---- all edits
 
