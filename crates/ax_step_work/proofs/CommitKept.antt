@@ -129,7 +129,7 @@ module _ (m : State) (actor : ℕ) (b : Batch) (r : TokenRow) (found : row_at b.
   in-batch : IsBatchIn m.setting m.cells m.processor_states b
   in-batch = subst (λ o. IfSome o (IsBatchIn m.setting m.cells m.processor_states)) mine (batch-at m actor h)
 
-  standing : IsStanding m.setting m.cells b r.token
+  pub standing : IsStanding m.setting m.cells b r.token
   standing = All-get (IsBatchRow m.setting m.cells b) rows place.0 r (AllFrom-get (IsBatchAt m.setting m.cells b) 0 m.processor_states b.processor (processor_state_at m b.processor) in-batch.rows there b.processor (omega arith) refl) place.1 place.2 fence
 
   -- whoever owns a fence of the row is its owner

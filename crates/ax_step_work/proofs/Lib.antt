@@ -15,4 +15,5 @@ pub mod Reached
 pub mod Bounds
 pub mod Fetches
 
+pub mod Commits
 pub mod NotWhole
