@@ -11,6 +11,8 @@ pub mod Known
 pub mod CommitKept
 pub mod Standing
 pub mod KeptRows
+pub mod Gathered
+pub mod Tallied
 pub mod Reached
 pub mod Bounds
 pub mod Fetches

@@ -78,8 +78,9 @@ fn push_rows(alloc: Global, edits: &mut Edits, handled: &Handled) -> Result<(), 
 {
     let basis = handled.basis();
     let processor = basis.processor;
+    let shares = basis.shares.parts();
     let results = handled.results().parts();
-    for (place, share) in basis.shares.parts().iter().enumerate() {
+    for (place, share) in shares.iter().enumerate() {
         push_row(alloc, edits, processor, share, &results[place])?;
     }
     Ok(())
