@@ -5,6 +5,7 @@ use Rattle.std.specs.List.{AllByRecursion}
 use Rattle.std.proofs.lemmas.Bool.Decides.{nat_tests}
 use Rattle.ax_log.specs.Log.{events}
 use Rattle.ax_segments.specs.Segments.{Segment}
+use Rattle.ax_tokens.specs.Tokens.{Token}
 use Rattle.ax_claims.specs.Rows.{TokenRow, row_at}
 use Rattle.ax_state.specs.Every.{option_or}
 use Rattle.ax_state.specs.Setting.{is_projection, projection_at, whole_at}
@@ -24,7 +25,7 @@ use Rattle.ax_state.specs.WellFormed.{IsTokenOver}
 use Rattle.ax_state.proofs.Lists.{All-set}
 use Rattle.ax_step_work.specs.Sharing.{read_shares}
 use Rattle.ax_step_work.proofs.KeptRows.{shares-read}
-use Rattle.ax_step_work.specs.Working.{fetched_batch, fetched, fetch_at}
+use Rattle.ax_step_work.specs.Working.{fetched_batch, fetched, fetch_at, fetched_token}
 use Rattle.ax_step_work.proofs.FetchKept.{kept-fetched, over, standing}
 use Rattle.ax_step_work.proofs.NotWhole.{not-whole}
 use Rattle.ax_world.specs.declared.edit.Edit.{Edit}
@@ -36,6 +37,14 @@ ok-map (Ok x) P Q f h = f x h
 ok-map (Err e) P Q f h = tt
 
 -- ---- the batch
+
+-- what the calls made is the batch of the definition
+pub fetched-is : (w : WorldTables) (p most : ℕ) (row : TokenRow) (t n : Token) (cells : List Cell) → t ≡ row.token → n ≡ fetched_token None row.segment row.token cells most → cells ≡ w.cells
+    → record { processor = p; segment = row.segment; fence = row.fence; old = t; new = n } ≡ fetched_batch (state_of w) p row.segment most row
+fetched-is w p most row t n cells old new cells_are =
+    ap (λ t. record { processor = p; segment = row.segment; fence = row.fence; old = t; new = n }) old
+    ∙ ap (λ n. record { processor = p; segment = row.segment; fence = row.fence; old = row.token; new = n })
+    (new ∙ ap (λ cs. fetched_token None row.segment row.token cs most) cells_are ∙ ap (λ o. fetched_token o row.segment row.token w.cells most) (sym (not-whole w.setting p)))
 
 pub fetch-move : (w : WorldTables) (actor p most : ℕ) (row : TokenRow) (old new : DeskTables) (x : Basis) (cells : List Cell) (records : ℕ) → IsWorld w → IsTrue (is_projection w.setting p) → actor < length w.setting.actors
     → row_at row.segment (rows_at w p) ≡ Some row → held_fence p row.segment (desk_at (state_of w) actor).held ≡ Some row.fence → slice_get w.desks actor ≡ Some (desk_of old) → cells ≡ w.cells → batch_of x ≡ fetched_batch (state_of w) p row.segment most row

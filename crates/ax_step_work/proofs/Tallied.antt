@@ -94,6 +94,24 @@ single-here [] i s h lt e = absurd (omega arith)
 single-here (t ∷ ss) zero s h lt e = subst IsSingle (sym e) h.0
 single-here (t ∷ ss) (suc i) s h lt e = single-here ss i s h.1 (omega arith) e
 
+module _ (rules : Rules) (keep : Bool) (all ss : List Share) (rs : List ShareResult) (shares_are : ss ≡ all) (results_are : rs ≡ map (share_result rules keep) all) (i : ℕ) (s : Share) (made : ShareResult)
+    (lt : i < length ss) (here : s ≡ get_or ss i s) (there : made ≡ get_or rs i made) where
+  pub made-is : made ≡ share_result rules keep s
+  made-is = result-here rules keep ss i s made lt here (there ∙ ap (λ rs. get_or rs i made) results_are ∙ ap (λ ts. get_or (map (share_result rules keep) ts) i made) (sym shares_are))
+
+  module _ (xs : List BasisItem) (os : List Outcome) (o : Option Told) (items_are : xs ≡ s.items) (outcomes_are : os ≡ made.outcomes) (left : left_of xs os ≡ o) where
+    left-share : left_of s.items (outcomes rules keep s) ≡ o
+    left-share = ap (left_of s.items) (sym (outcomes_are ∙ ap (λ (r : ShareResult). r.outcomes) made-is)) ∙ ap (λ xs. left_of xs os) (sym items_are) ∙ left
+
+    left-then : first_left rules keep (drop i ss) ≡ first_some o (first_left rules keep (drop (i + 1) ss))
+    left-then = shares-next rules keep ss i s o lt here left-share
+
+    pub left-found : (t : Told) → o ≡ Some t → first_left rules keep (drop i ss) ≡ first_left rules keep ss → Some t ≡ first_left rules keep all
+    left-found t is same = sym (ap (λ o. first_some o (first_left rules keep (drop (i + 1) ss))) is) ∙ sym left-then ∙ same ∙ ap (first_left rules keep) shares_are
+
+    pub left-passed : o ≡ None → first_left rules keep (drop i ss) ≡ first_left rules keep ss → first_left rules keep (drop (i + 1) ss) ≡ first_left rules keep ss
+    left-passed is same = sym (ap (λ o. first_some o (first_left rules keep (drop (i + 1) ss))) is) ∙ sym left-then ∙ same
+
 -- ---- entries
 
 pub length-rows : (rules : Rules) (names : List Name) (xs : List BasisItem) (os : List Outcome) (rows : List Row) → length (rows_after rules names xs os rows) ≡ length rows
@@ -125,3 +143,10 @@ next-rows front all new p rules keep ss i s lt e same pushed =
     ∙ append_assoc front (row_edits p (share_entries rules keep s)) (row_edits p (entries_after rules keep (drop (i + 1) ss)))
     ∙ ap (λ es. front ++ es) (sym (edits-append p (share_entries rules keep s) (entries_after rules keep (drop (i + 1) ss))))
     ∙ ap (λ ts. front ++ row_edits p (entries_after rules keep ts)) (sym (share-here ss i s lt e)) ∙ same
+
+-- its row stands in its place
+pub row-there : (rules : Rules) (keep : Bool) (all ss : List Share) (rs : List ShareResult) (shares_are : ss ≡ all) (results_are : rs ≡ map (share_result rules keep) all) (i : ℕ) (s : Share) (made : ShareResult)
+    (lt : i < length ss) (here : s ≡ get_or ss i s) (there : made ≡ get_or rs i made) → AllByRecursion IsSingle all → (row : Row) × (made.rows ≡ row ∷ [])
+row-there rules keep all ss rs shares_are results_are i s made lt here there single =
+    let k = single-row rules keep s (single-here ss i s (subst (AllByRecursion IsSingle) (sym shares_are) single) lt here) in
+    (k.0, ap (λ (r : ShareResult). r.rows) (made-is rules keep all ss rs shares_are results_are i s made lt here there) ∙ k.1)

@@ -1,5 +1,6 @@
-ghost use Rattle.std.specs.Prelude.{◌≡◌, ◌++◌, map, IfOk, OnOk};
+ghost use Rattle.std.specs.Prelude.{◌≡◌, ◌≤◌, ◌++◌, length, map, IfOk, OnOk};
 ghost use Rattle.ax_log.specs.Log.{events};
+ghost use Rattle.ax_log.specs.Order.{max_cells};
 ghost use Rattle.ax_tokens.specs.Nodes.{token_of};
 ghost use Rattle.ax_projections.specs.Items.{placed_items};
 ghost use Rattle.ax_state.specs.Batches.{basis_item, batch_items};
@@ -23,6 +24,7 @@ pub(crate) fn fetched_items(
     new: &Token,
     cells: &[Cell],
 ) -> Result<Vec<BasisItem>, NoMemory>
+    requires { length cells.now ≤ max_cells }
     ensures { IfOk result (λ items. items.items ≡ map (basis_item None (taken segment (token_of old.now) (token_of new.now))) (batch_items None chain.now (taken segment (token_of old.now) (token_of new.now)) (events cells.now))) }
 {
     let (first, part) = fetchable(old, new, cells);
