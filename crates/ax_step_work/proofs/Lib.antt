@@ -13,9 +13,9 @@ pub mod Standing
 pub mod KeptRows
 pub mod Gathered
 pub mod Tallied
+pub mod Fitted
 pub mod Reached
 pub mod Bounds
 pub mod Fetches
-
 pub mod Commits
 pub mod NotWhole

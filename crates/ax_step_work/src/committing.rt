@@ -123,7 +123,11 @@ fn commit_rows(
     let _ = world.sheet().chain().parts();
     let _ = world.table(handled.basis().processor).len();
     match first_left(handled) {
-        Some((item, outcome)) => not_applied(alloc, item, outcome),
+        Some((item, outcome)) => {
+            drop(rows);
+            drop(desk);
+            not_applied(alloc, item, outcome)
+        }
         None => install(alloc, actor, handled, rows, desk),
     }
 }

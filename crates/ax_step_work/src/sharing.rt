@@ -63,12 +63,7 @@ fn push_to(share: &mut Share, item: BasisItem) -> Result<(), NoMemory>
 }
 
 /// A share of one item.
-fn new_share(
-    alloc: Global,
-    rules: &Rules,
-    kept: &Table,
-    item: BasisItem,
-) -> Result<Share, NoMemory>
+fn new_share(alloc: Global, rules: &Rules, kept: &Table, item: BasisItem) -> Result<Share, NoMemory>
     ensures { IfOk result (λ share. share ≡ single (member_read rules.now kept.now.entries) item.item.name.aggregate (item ∷ [])) }
 {
     let aggregate = &item.item.name.aggregate;
