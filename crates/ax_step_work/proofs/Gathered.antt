@@ -1,5 +1,5 @@
 -- The loops of a fetch: one cell more, one item more, one share that grows.
-use Rattle.std.proofs.Common.{◌≡◌, ℕ, suc, ◌+◌, ◌<◌, Bool, true, false, ◌||◌, List, [], ◌∷◌, ◌++◌, length, map, filter, flat_map, drop, get_or, drop-cons, slice_get, slice_set, Option, None, Result, Ok, Err, if◌then◌else◌, refl, sym, ap, ◌∙◌, subst, arith}
+use Rattle.std.proofs.Common.{◌≡◌, ℕ, suc, ◌+◌, ◌<◌, Bool, true, false, List, [], ◌∷◌, ◌++◌, length, map, filter, flat_map, drop, get_or, drop-cons, slice_set, None, Result, Ok, Err, if◌then◌else◌, refl, sym, ap, ◌∙◌, subst, arith}
 use Rattle.std.specs.Prelude.{insert, OnOk}
 use Rattle.std.proofs.lemmas.List.{map-append}
 use Rattle.std.proofs.lemmas.Option.{get_or_from_slice_get}
@@ -7,7 +7,7 @@ use Rattle.ax_laws.proofs.Tests.{or-false}
 use Rattle.ax_values.specs.Grammar.{Name}
 use Rattle.ax_values.specs.Words.{same_name}
 use Rattle.ax_log.specs.Log.{Stored, events_from}
-use Rattle.ax_projections.specs.Items.{Placed, placed_items}
+use Rattle.ax_projections.specs.Items.{placed_items}
 use Rattle.ax_projections.proofs.NameLaws.{name-refl}
 use Rattle.ax_basis.specs.Basis.{Share, is_of_member}
 use Rattle.ax_state.specs.State.{Batch}

@@ -1,16 +1,15 @@
 -- The loops of a commit over shares and their results.
-use Rattle.std.proofs.Common.{◌≡◌, ℕ, zero, suc, ◌+◌, ◌<◌, ◌≤◌, Bool, true, false, List, [], ◌∷◌, ◌++◌, length, map, flat_map, drop, get_or, drop-cons, slice_get, slice_set, Option, Some, None, find, if◌then◌else◌, append_assoc, refl, sym, ap, ◌∙◌, subst, arith}
+use Rattle.std.proofs.Common.{◌≡◌, ℕ, zero, suc, ◌+◌, ◌<◌, Bool, true, false, List, [], ◌∷◌, ◌++◌, length, map, flat_map, drop, get_or, drop-cons, slice_get, Option, Some, None, find, if◌then◌else◌, append_assoc, refl, sym, ap, ◌∙◌, subst, arith}
 use Rattle.std.specs.List.{AllByRecursion}
-use Rattle.std.proofs.lemmas.List.{length-append, length-set, map-append}
+use Rattle.std.proofs.lemmas.List.{length-append, length-set}
 use Rattle.ax_values.specs.Grammar.{Name}
 use Rattle.ax_rules.specs.Expr.{Row}
 use Rattle.ax_rules.specs.Rules.{Rules}
 use Rattle.ax_basis.specs.Basis.{Share, member_names, member_rows}
 use Rattle.ax_basis.specs.Outcomes.{rows_after, share_result, outcomes}
 use Rattle.ax_step_work.specs.Working.{Told, told, told_share, is_left, first_left}
-use Rattle.ax_step_work.specs.Installing.{IsSingle, share_items, share_entries, entries_after, entries_by, row_edits}
+use Rattle.ax_step_work.specs.Installing.{IsSingle, share_items, share_entries, entries_after, row_edits}
 use Rattle.ax_basis.specs.declared.item.BasisItem.{BasisItem}
-use Rattle.ax_basis.specs.declared.item.Member.{Member}
 use Rattle.ax_basis.specs.declared.outcome.Outcome.{Outcome}
 use Rattle.ax_basis.specs.declared.outcome.ShareResult.{ShareResult}
 use Rattle.ax_projections.specs.Table.{Entry}

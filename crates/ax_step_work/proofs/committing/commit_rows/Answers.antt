@@ -1,4 +1,4 @@
-use Rattle.std.proofs.Common.{◌≡◌, ◌∙◌, Some, ap, subst, map}
+use Rattle.std.proofs.Common.{◌∙◌, Some, ap, subst, map}
 use Rattle.std.specs.List.{IsDistinct}
 use Rattle.std.proofs.lemmas.Result.{IfOk-weaker}
 use Rattle.ax_values.specs.Words.{same_name}

@@ -1,4 +1,4 @@
-use Rattle.std.proofs.Common.{◌≡◌, ◌++◌, ◌∷◌, [], length, filter, true, Some, None, refl, ◌∙◌, sym, ap, subst}
+use Rattle.std.proofs.Common.{◌++◌, ◌∷◌, [], length, filter, true, Some, None, refl, ◌∙◌, sym, ap, subst}
 use Rattle.ax_log.specs.Log.{events}
 use Rattle.ax_tokens.specs.Nodes.{token_of}
 use Rattle.ax_claims.specs.Rows.{TokenRow}

@@ -1,4 +1,4 @@
-use Rattle.std.proofs.Common.{◌≡◌, ap, ◌∙◌}
+use Rattle.std.proofs.Common.{ap, ◌∙◌}
 use Rattle.ax_basis.specs.Basis.{Basis}
 use Rattle.ax_step_work.proofs.Tallied.{row-there}
 use Rattle.ax_step_work.proofs.installing.push_rows.Goals as goal

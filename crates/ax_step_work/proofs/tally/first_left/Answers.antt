@@ -1,5 +1,4 @@
-use Rattle.std.proofs.Common.{◌≡◌, None, Some, refl, sym, ap, ◌∙◌}
-use Rattle.ax_laws.proofs.Options.{none-of}
+use Rattle.std.proofs.Common.{None, refl, sym, ap, ◌∙◌}
 use Rattle.ax_basis.specs.Basis.{Basis, Share}
 use Rattle.ax_step_work.specs.Installing.{tell}
 use Rattle.ax_step_work.proofs.Tallied.{left-found, left-passed}
