@@ -1,15 +1,15 @@
 -- A token advanced and collapsed: what is kept of a token holds of it too.
-use Rattle.std.proofs.Common.{◌≡◌, ℕ, zero, suc, ◌<◌, ◌≤◌, ◌&&◌, ◌||◌, Bool, true, false, not, IsTrue, List, [], ◌∷◌, ◌++◌, length, filter, max, if◌then◌else◌, refl, sym, ap, ◌∙◌, arith, nat_lt, nat_le}
+use Rattle.std.proofs.Common.{◌≡◌, ℕ, zero, suc, ◌<◌, ◌≤◌, ◌&&◌, ◌||◌, Bool, true, false, not, IsTrue, List, [], ◌∷◌, length, filter, max, if◌then◌else◌, refl, sym, ap, ◌∙◌, arith, nat_lt}
 use Rattle.std.specs.List.{AllByRecursion}
 use Rattle.std.proofs.lemmas.Bool.Decides.{nat_tests}
 use Rattle.ax_log.specs.Log.{is_settled}
-use Rattle.ax_segments.specs.Segments.{half_mask, is_upper, max_mask}
-use Rattle.ax_tokens.specs.Plain.{Plain, has, contains, below, end_of, plain_of, settles, advanced_plain, includes}
-use Rattle.ax_tokens.specs.Tokens.{Token, plain, merged, replay, parts, half, covers, covers_here, advanced, collapsed, caught_up, joins, joined, gaps_fit, masks_fit, max_gaps}
+use Rattle.ax_segments.specs.Segments.{half_mask, is_upper}
+use Rattle.ax_tokens.specs.Plain.{Plain, has, contains, below, end_of, plain_of, settles, advanced_plain}
+use Rattle.ax_tokens.specs.Tokens.{Token, plain, merged, replay, parts, half, covers, covers_here, advanced, collapsed, gaps_fit, masks_fit}
 use Rattle.ax_tokens.proofs.Sets.{contains-filter-below, has-plain_of, plain_of-canonical}
 use Rattle.ax_tokens.proofs.Gaps.{canonical-plain_of}
-use Rattle.ax_tokens.proofs.Changes.{covers-advanced, covers-collapsed, is_collapsed-collapsed, collapsed-is}
-use Rattle.ax_laws.proofs.Tests.{both, and-left, and-right}
+use Rattle.ax_tokens.proofs.Changes.{covers-advanced, covers-collapsed}
+use Rattle.ax_laws.proofs.Tests.{and-left, and-right}
 use Rattle.ax_state.specs.WellFormed.{IsPlainOver, IsTokenOver, Advanced, with_added}
 use Rattle.ax_state.proofs.Collapsing.{token-collapsed}
 use Rattle.ax_state.proofs.Lists.{All-left, All-right, All-append, All-map}

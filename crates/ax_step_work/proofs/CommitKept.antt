@@ -1,11 +1,12 @@
 -- A commit keeps what holds of every state.
-use Rattle.std.proofs.Common.{◌≡◌, ℕ, zero, suc, ◌<◌, ◌≤◌, ◌==◌, ◌&&◌, Bool, true, false, not, IsTrue, List, [], ◌∷◌, ◌++◌, map, filter, flat_map, length, Option, Some, None, Result, Ok, Err, slice_get, slice_set, if◌then◌else◌, refl, sym, ap, ◌∙◌, subst, arith}
+use Rattle.std.proofs.Common.{◌≡◌, ℕ, zero, suc, ◌<◌, ◌≤◌, ◌==◌, ◌&&◌, Bool, true, false, not, IsTrue, List, [], ◌∷◌, ◌++◌, filter, flat_map, length, Option, Some, None, Result, Ok, Err, slice_get, slice_set, if◌then◌else◌, refl, sym, ap, ◌∙◌, subst, arith}
 use Rattle.std.specs.Prelude.{IfSome, IsOk}
-use Rattle.std.specs.List.{AllByRecursion}
+use Rattle.std.specs.List.{AllByRecursion, list_any}
 use Rattle.std.proofs.lemmas.Bool.Decides.{nat_tests}
 use Rattle.std.proofs.lemmas.Grind.{flat_map-append}
 use Rattle.std.proofs.lemmas.List.{map-append}
 use Rattle.ax_values.specs.Grammar.{Name}
+use Rattle.ax_values.specs.Words.{same_name}
 use Rattle.ax_laws.proofs.Options.{some-is, none-some}
 use Rattle.ax_log.specs.Log.{Stored, events, stream_in}
 use Rattle.ax_rules.specs.Expr.{Row}
@@ -15,7 +16,6 @@ use Rattle.ax_segments.specs.Sequences.{hash_in}
 use Rattle.ax_segments.proofs.HashLaws.{hash_in-small}
 use Rattle.ax_tokens.specs.Tokens.{covers}
 use Rattle.ax_projections.specs.Items.{Placed, placed_items, plain_items}
-use Rattle.ax_projections.proofs.RebuildLaws.{items-own}
 use Rattle.ax_claims.specs.Rows.{TokenRow, row_at, put_row}
 use Rattle.ax_claims.proofs.RowPlaces.{get-within}
 use Rattle.ax_sheet.specs.Declarations.{names_differ}
@@ -32,11 +32,18 @@ use Rattle.ax_state.proofs.Prefixes.{same-filter, covered-stream, same-row}
 use Rattle.ax_state.proofs.Actors.{same-actor}
 use Rattle.ax_state.proofs.Frames.{seat-at, batch-at, batch-owned, place-there, place-at, place-put, kept-held-row}
 use Rattle.ax_state.proofs.Desks.{kept-emptied}
-use Rattle.ax_step_work.specs.Working.{Failure, fetched_events, batch_items, items_of_batch, share_of, row_behind, present_row, first_failure, installed, committed, commit_over, commit_batch, commit, with_batch}
+use Rattle.ax_state.specs.Batches.{batch_items, shares_of, member_of, known_events}
+use Rattle.ax_step_work.specs.Working.{Told, items_of_batch, shares_in, first_left, installed, committed, commit_over, commit_batch, commit, with_batch}
+use Rattle.ax_step_work.specs.Sharing.{member_at, item_names, is_item_of, single_shares}
 use Rattle.ax_step_work.proofs.Advancing.{advanced-keeps}
-use Rattle.ax_step_work.proofs.Folding.{covered-split, stream-filter, row-now, fold-append, no-failure}
-use Rattle.ax_step_work.proofs.NotWhole.{not-both-kinds}
+use Rattle.ax_step_work.proofs.Folding.{share_of, row_behind, present_row, covered-split, row-now, fold-append}
+use Rattle.ax_step_work.proofs.Known.{share-stream, none-taken, none-placed, taken-matches, known-items, value_by, value-same}
+use Rattle.ax_step_work.proofs.Singles.{items, names-same, own-same, shares-single}
+use Rattle.ax_step_work.proofs.Outcomes.{fold-at, only_items}
+use Rattle.ax_step_work.proofs.NotWhole.{not-whole, not-both-kinds}
 use Rattle.ax_rules.specs.declared.cause.Cause.{Cause}
+use Rattle.ax_basis.specs.declared.item.BasisItem.{BasisItem}
+use Rattle.ax_projections.specs.declared.table.Positioned.{Positioned}
 use Rattle.ax_journal.specs.declared.reply.Reply.{Reply}
 use Rattle.ax_upcast.specs.declared.upcaster.Upcaster.{Upcaster}
 
@@ -47,16 +54,6 @@ pub record IsAdded (whole : Option Name) (chain : List Upcaster) (es : List Stor
   pub mine : (a : Name) → matches b.segment (hash_in whole a) ≡ true → items_in chain (covered_events whole (portions later) es) a ≡ items_in chain (covered_events whole (portions rows) es) a ++ share_of a (batch_items whole chain b es)
   pub others : (a : Name) → matches b.segment (hash_in whole a) ≡ false → items_in chain (covered_events whole (portions later) es) a ≡ items_in chain (covered_events whole (portions rows) es) a
   pub none : (a : Name) → matches b.segment (hash_in whole a) ≡ false → share_of a (batch_items whole chain b es) ≡ []
-
-no-stream : (f : ℕ → Bool) (es : List Stored) → ((i : ℕ) → f i ≡ false) → filter (λ e. f e.index) es ≡ []
-no-stream f [] h = refl
-no-stream f (e ∷ es) h = ap (λ c. if c then e ∷ filter (λ e. f e.index) es else filter (λ e. f e.index) es) (h e.index) ∙ no-stream f es h
-
-share-stream : (whole : Option Name) (chain : List Upcaster) (es : List Stored) (b : Batch) (a : Name) → share_of a (batch_items whole chain b es)
-    ≡ flat_map (placed_items chain) (filter (λ e. matches b.segment (hash_in whole a) && (covers b.new b.segment.mask (hash_in whole a) e.index && not (covers b.old b.segment.mask (hash_in whole a) e.index))) (stream_in a es))
-share-stream whole chain es b a =
-    sym (items-own chain a (fetched_events whole b es))
-    ∙ ap (flat_map (placed_items chain)) (stream-filter a (λ n i. matches b.segment (hash_in whole n) && (covers b.new b.segment.mask (hash_in whole n) i && not (covers b.old b.segment.mask (hash_in whole n) i))) es)
 
 pub items-added : (whole : Option Name) (chain : List Upcaster) (es : List Stored) (rows : List TokenRow) (k : ℕ) (r n : TokenRow) (b : Batch) → AreParts (portions rows) → CoverPrefix whole es (portions rows) → slice_get rows k ≡ Some r
     → r.segment ≡ b.segment → b.old ≡ r.token → n.segment ≡ r.segment → n.token ≡ b.new → ((mask h i : ℕ) → covers b.old mask h i ≡ true → covers b.new mask h i ≡ true) → IsAdded whole chain es rows (put_row n rows) b
@@ -75,10 +72,7 @@ items-added whole chain es rows k r n b parts prefixes at seg old same new more 
       ap (flat_map (placed_items chain)) (covered-stream whole (portions (put_row n rows)) a es
       ∙ tests-are a (λ i. covered_by (portions (put_row n rows)) (hash_in whole a) i) (λ i. covered_by (portions rows) (hash_in whole a) i) (λ i. put.other (hash_in whole a) i (ap (λ t. matches t (hash_in whole a)) (same ∙ seg) ∙ m))
       ∙ sym (covered-stream whole (portions rows) a es));
-  none = λ a m.
-      share-stream whole chain es b a
-      ∙ ap (flat_map (placed_items chain)) (no-stream (λ i. matches b.segment (hash_in whole a) && (covers b.new b.segment.mask (hash_in whole a) i && not (covers b.old b.segment.mask (hash_in whole a) i))) (stream_in a es)
-      (λ i. ap (λ c. c && (covers b.new b.segment.mask (hash_in whole a) i && not (covers b.old b.segment.mask (hash_in whole a) i))) m));
+  none = λ a m. none-taken whole chain es b a m;
 }
   where
     put : IsChanged rows (put_row n rows) n
@@ -96,6 +90,21 @@ items-added whole chain es rows k r n b parts prefixes at seg old same new more 
     earlier-here a m i =
         covered-here rows k r (hash_in whole a) i parts at (hash_in-small whole a) (ap (λ t. matches t (hash_in whole a)) seg ∙ m)
         ∙ ap (λ t. covers t r.segment.mask (hash_in whole a) i) (sym old) ∙ ap (λ (t : Segment). covers b.old t.mask (hash_in whole a) i) seg
+
+ok-is : (o : Result Row Cause) (made : Row) → o ≡ Ok made → IsOk o
+ok-is o made e = subst IsOk (sym e) refl
+
+pub unmarked : (b : Batch) (ys : List Placed) → AllByRecursion (λ x. x.marked ≡ false) (items b ys)
+unmarked b [] = tt
+unmarked b (y ∷ ys) = (refl, unmarked b ys)
+
+-- the items of an aggregate, with their places and as they are handled
+pub folded-same : (rules : Rules) (b : Batch) (a : Name) (xs : List Placed) (row : Row) → fold_from rules (only_items (filter (is_item_of a) (items b xs))) row ≡ fold_from rules (plain_items (share_of a xs)) row
+folded-same rules b a xs row = ap (λ ys. fold_from rules (only_items ys) row) (own-same b a xs) ∙ ap (λ ys. fold_from rules ys row) (plain-same (share_of a xs))
+  where
+    plain-same : (ys : List Placed) → only_items (items b ys) ≡ plain_items ys
+    plain-same [] = refl
+    plain-same (y ∷ ys) = ap (λ zs. y.item ∷ zs) (plain-same ys)
 
 -- ---- the state after a commit
 
@@ -120,7 +129,7 @@ module _ (m : State) (actor : ℕ) (b : Batch) (r : TokenRow) (found : row_at b.
   in-batch : IsBatchIn m.setting m.cells m.processor_states b
   in-batch = subst (λ o. IfSome o (IsBatchIn m.setting m.cells m.processor_states)) mine (batch-at m actor h)
 
-  standing : IsStanding m.setting m.cells b r.token
+  pub standing : IsStanding m.setting m.cells b r.token
   standing = All-get (IsBatchRow m.setting m.cells b) rows place.0 r (AllFrom-get (IsBatchAt m.setting m.cells b) 0 m.processor_states b.processor (processor_state_at m b.processor) in-batch.rows there b.processor (omega arith) refl) place.1 place.2 fence
 
   -- whoever owns a fence of the row is its owner
@@ -188,6 +197,50 @@ module _ (m : State) (actor : ℕ) (b : Batch) (r : TokenRow) (found : row_at b.
           ∙ ok-fold
           ∙ sym (ap (λ ys. fold_from rules (plain_items ys) (present_row m b.processor a)) (added.none a e))
 
+  -- ---- the shares of the batch
+
+  abbrev taken_items : List BasisItem
+  taken_items = items b (batch_items None chain b (events m.cells))
+
+  abbrev value : Name → Positioned
+  value a = value_by rules chain (known_events None b (events m.cells)) a
+
+  pub shares-are : shares_in m b ≡ single_shares (λ a. member_at a (value a)) taken_items
+  shares-are = ap (λ o. shares_of o rules chain b (events m.cells)) (not-whole m.setting b.processor) ∙ shares-single b (member_of None rules chain b (events m.cells)) (batch_items None chain b (events m.cells))
+
+  -- the items are those of the state's batch
+  pub xs-are : xs ≡ batch_items None chain b (events m.cells)
+  xs-are = ap (λ o. batch_items o chain b (events m.cells)) (not-whole m.setting b.processor)
+
+  -- an aggregate of the batch is known as it is now
+  pub known-value : (a : Name) → matches b.segment (hash_in None a) ≡ true → value a ≡ value_by rules chain (covered_events whole (portions rows) (events m.cells)) a
+  known-value a m1 =
+      value-same rules chain (known_events None b (events m.cells)) (covered_events None (portions rows) (events m.cells)) a
+      (known-items chain (events m.cells) rows place.0 r b was.parts place.1 place.2 standing.old a m1)
+      ∙ ap (λ o. value_by rules chain (covered_events o (portions rows) (events m.cells)) a) (sym (not-whole m.setting b.processor))
+
+  known-row : (a : Name) → list_any (same_name a) (item_names taken_items) ≡ true → (value a).row ≡ present_row m b.processor a
+  known-row a h =
+      ap (λ (v : Positioned). v.row) (known-value a (taken-matches chain (events m.cells) b a (sym (ap (list_any (same_name a)) (names-same b (batch_items None chain b (events m.cells)))) ∙ h)))
+      ∙ sym (present-is a)
+
+  -- where none is left, each aggregate's items apply
+  pub all-apply : first_left rules true (shares_in m b) ≡ None → (a : Name) → IsOk (row_behind rules (present_row m b.processor) xs a)
+  all-apply none a = by (list_any (same_name a) (item_names taken_items)) refl
+    where
+      by : (c : Bool) → list_any (same_name a) (item_names taken_items) ≡ c → IsOk (row_behind rules (present_row m b.processor) xs a)
+      by true h =
+          let f = fold-at rules value taken_items (unmarked b (batch_items None chain b (events m.cells))) (ap (first_left rules true) (sym shares-are) ∙ none) a h in
+          ok-is (row_behind rules (present_row m b.processor) xs a) f.made
+          (ap (λ ys. row_behind rules (present_row m b.processor) ys a) xs-are
+          ∙ sym (folded-same rules b a (batch_items None chain b (events m.cells)) (present_row m b.processor a))
+          ∙ ap (fold_from rules (only_items (filter (is_item_of a) taken_items))) (sym (known-row a h)) ∙ f.folded)
+      by false h =
+          ok-is (row_behind rules (present_row m b.processor) xs a) (present_row m b.processor a)
+          (ap (λ ys. fold_from rules (plain_items (share_of a ys)) (present_row m b.processor a)) xs-are
+          ∙ ap (λ ys. fold_from rules (plain_items ys) (present_row m b.processor a)) (none-placed a (batch_items None chain b (events m.cells))
+          (sym (ap (list_any (same_name a)) (names-same b (batch_items None chain b (events m.cells)))) ∙ h)))
+
   -- ---- the parts that change
 
   -- the desk without the batch
@@ -222,13 +275,13 @@ module _ (m : State) (actor : ℕ) (b : Batch) (r : TokenRow) (found : row_at b.
       let desk : record (desk_at m actor) { batch = None } ≡ x = set-at m.desks actor (record (desk_at m actor) { batch = None }) x (ap (slice_get emptied.desks) (sym same) ∙ at) in
       none-some d (ap (λ (y : Desk). y.batch) desk ∙ has)
 
-  pub kept-installed : first_failure rules (present_row m b.processor) [] xs ≡ None → IsWellFormed (installed m actor b r)
-  kept-installed none =
+  pub kept-installed : ((a : Name) → IsOk (row_behind rules (present_row m b.processor) xs a)) → IsWellFormed (installed m actor b r)
+  kept-installed apply =
       kept-held-row emptied b.processor b.segment r n found refl (omega arith) kept refl refl
       (place-put m.setting m.cells b.processor (processor_state_at m b.processor) place.0 r n was place.1 refl (λ e. absurd (none-some (actor_name m actor) (sym e ∙ owner))) (record {
         token = subst (λ (t : Segment). IsTokenOver m.cells t.mask b.new) (sym place.2) standing.token;
         prefixes = subst (λ (t : Segment). TokenPrefix whole (events m.cells) t b.new) (sym place.2) standing.prefixes;
-        rows = λ e a. subst IsOk (sym (row-after a)) (no-failure rules (present_row m b.processor) xs [] none (λ a. refl) a);
+        rows = λ e a. subst IsOk (sym (row-after a)) (apply a);
         gaps = standing.gaps;
         replays = λ saga. absurd (not-both-kinds m.setting b.processor in-batch.declared saga);
       }))
@@ -237,21 +290,21 @@ module _ (m : State) (actor : ℕ) (b : Batch) (r : TokenRow) (found : row_at b.
 -- ---- the step
 
 module _ (m : State) (actor : ℕ) (b : Batch) (mine : (desk_at m actor).batch ≡ Some b) (differ : IsTrue (names_differ m.setting.actors)) (h : IsWellFormed m) where
-  kept-committed : (r : TokenRow) → row_at b.segment (processor_state_at m b.processor).rows ≡ Some r → r.fence ≡ b.fence → (o : Option Failure) → first_failure (projection_at m.setting b.processor) (present_row m b.processor) [] (items_of_batch m b) ≡ o
+  kept-committed : (r : TokenRow) → row_at b.segment (processor_state_at m b.processor).rows ≡ Some r → r.fence ≡ b.fence → (o : Option Told) → first_left (projection_at m.setting b.processor) true (shares_in m b) ≡ o
       → IsWellFormed (committed m actor b r o).state
-  kept-committed r found fence (Some f) e = h
-  kept-committed r found fence None e = kept-installed m actor b r found fence mine differ h e
+  kept-committed r found fence (Some t) e = h
+  kept-committed r found fence None e = kept-installed m actor b r found fence mine differ h (all-apply m actor b r found fence mine differ h e)
 
   kept-over : (o : Option TokenRow) → row_at b.segment (processor_state_at m b.processor).rows ≡ o → IsWellFormed (commit_over m actor b o).state
   kept-over None e = kept-emptied m actor h
   kept-over (Some r) e = by (r.fence == b.fence) refl
     where
-      failure : Option Failure
-      failure = first_failure (projection_at m.setting b.processor) (present_row m b.processor) [] (items_of_batch m b)
+      left : Option Told
+      left = first_left (projection_at m.setting b.processor) true (shares_in m b)
 
-      by : (c : Bool) → (r.fence == b.fence) ≡ c → IsWellFormed (if c then committed m actor b r failure else answer (with_batch actor None m) (Reply.Stale b.fence (Some r.fence))).state
+      by : (c : Bool) → (r.fence == b.fence) ≡ c → IsWellFormed (if c then committed m actor b r left else answer (with_batch actor None m) (Reply.Stale b.fence (Some r.fence))).state
       by false k = kept-emptied m actor h
-      by true k = kept-committed r e (grind (arith, nat_tests, k)) failure refl
+      by true k = kept-committed r e (grind (arith, nat_tests, k)) left refl
 
 pub kept-commit : (m : State) (actor : ℕ) → IsTrue (names_differ m.setting.actors) → IsWellFormed m → IsWellFormed (commit m actor).state
 kept-commit m actor differ h = by (desk_at m actor).batch refl

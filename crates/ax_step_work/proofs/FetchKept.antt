@@ -1,21 +1,18 @@
 -- A fetch keeps what holds of every state.
-use Rattle.std.proofs.Common.{◌≡◌, ℕ, zero, suc, ◌≤◌, ◌==◌, ◌&&◌, ◌||◌, Bool, true, false, IsTrue, List, [], ◌∷◌, find, length, Option, Some, None, slice_get, if◌then◌else◌, refl, ap, ◌∙◌, subst, arith, nat_lt, nat_le}
-use Rattle.std.specs.Prelude.{option_map}
-use Rattle.std.specs.List.{AllByRecursion}
+use Rattle.std.proofs.Common.{◌≡◌, ℕ, zero, suc, ◌≤◌, ◌&&◌, ◌||◌, Bool, true, false, IsTrue, List, [], ◌∷◌, length, Option, Some, slice_get, if◌then◌else◌, refl, ap, ◌∙◌, subst, arith, nat_lt, nat_le}
 use Rattle.std.proofs.lemmas.Bool.Decides.{nat_tests}
 use Rattle.ax_values.specs.Grammar.{Name}
 use Rattle.ax_laws.proofs.Tests.{both, and-false, and-swap}
 use Rattle.ax_log.specs.Log.{Stored, events, stream_in, is_settled}
-use Rattle.ax_segments.specs.Segments.{Segment, same_segment}
+use Rattle.ax_segments.specs.Segments.{Segment}
 use Rattle.ax_segments.specs.Sequences.{hash_in}
 use Rattle.ax_tokens.specs.Plain.{settles}
 use Rattle.ax_tokens.specs.Tokens.{advanced, covers, gaps_fit}
 use Rattle.ax_tokens.proofs.Changes.{covers-advanced, covers-collapsed}
 use Rattle.ax_claims.specs.Rows.{TokenRow, row_at}
-use Rattle.ax_claims.proofs.RowPlaces.{same-segment}
 use Rattle.ax_state.specs.Setting.{is_projection, whole_at}
-use Rattle.ax_state.specs.State.{State, ProcessorState, Held, Desk, Batch, desk_at, processor_state_at, actor_name}
-use Rattle.ax_state.specs.WellFormed.{IsWellFormed, IsDeskOf, IsProcessorState, IsTokenOver, TokenPrefix, IsStanding, OwnsAs, is_prefix_test}
+use Rattle.ax_state.specs.State.{State, Batch, desk_at, processor_state_at, actor_name}
+use Rattle.ax_state.specs.WellFormed.{IsWellFormed, IsProcessorState, IsTokenOver, TokenPrefix, IsStanding, is_prefix_test}
 use Rattle.ax_state.proofs.Lists.{All-map, All-get}
 use Rattle.ax_state.proofs.RowPuts.{found-row, All-rows}
 use Rattle.ax_state.proofs.Coverage.{prefix-here}
@@ -23,12 +20,11 @@ use Rattle.ax_state.proofs.Frames.{seat-at, place-there, place-at}
 use Rattle.ax_state.proofs.Desks.{kept-batch, batch-here}
 use Rattle.ax_world.specs.Holding.{held_fence}
 use Rattle.ax_world.proofs.HeldFences.{held-owned, kept-on_held_row}
-use Rattle.ax_step_work.specs.Working.{is_new, new_below, is_fetchable, largest, fetch_limit, fetch_bound, batch_of, fetched, fetch_at}
+use Rattle.ax_step_work.specs.Working.{is_new, new_below, is_fetchable, largest, fetch_limit, fetch_bound, fetched_batch, fetched, fetch_at}
 use Rattle.ax_step_work.proofs.Advancing.{token-advanced, advance-adds, advanced-none}
 use Rattle.ax_step_work.proofs.Bounds.{limit-within}
 use Rattle.ax_step_work.proofs.Covering.{rising-stream, settled-stream, prefix-grows, same-tests}
 use Rattle.ax_step_work.proofs.NotWhole.{gaps-allowed}
-use Rattle.ax_journal.specs.declared.reply.Reply.{Reply}
 
 -- ---- the bound
 
@@ -60,7 +56,7 @@ module _ (m : State) (actor p : ℕ) (s : Segment) (most : ℕ) (r : TokenRow) (
   place : (k : ℕ) × (slice_get rows k ≡ Some r) × (r.segment ≡ s)
   place = found-row s rows r found
 
-  over : IsTokenOver m.cells s.mask r.token
+  pub over : IsTokenOver m.cells s.mask r.token
   over = subst (λ (t : Segment). IsTokenOver m.cells t.mask r.token) place.2
       (All-get (λ x. IsTokenOver m.cells x.segment.mask x.token) rows place.0 r (All-rows (λ x. IsTokenOver m.cells x.segment.mask x.token) rows was.tokens) place.1)
 
@@ -91,7 +87,7 @@ module _ (m : State) (actor p : ℕ) (s : Segment) (most : ℕ) (r : TokenRow) (
   within = let a : bound ≤ fetch_limit whole m.cells = largest-within test (fetch_limit whole m.cells) in let b : fetch_limit whole m.cells ≤ length m.cells = limit-within whole m.cells in omega arith
 
   abbrev b : Batch
-  b = batch_of m p s most r
+  b = fetched_batch m p s most r
 
   covers-new : (h i : ℕ) → covers b.new s.mask h i ≡ (covers r.token s.mask h i || settles m.cells bound i)
   covers-new h i = covers-collapsed (advanced m.cells bound r.token) s.mask h i ∙ covers-advanced m.cells bound r.token s.mask h i
@@ -109,7 +105,7 @@ module _ (m : State) (actor p : ℕ) (s : Segment) (most : ℕ) (r : TokenRow) (
           ∙ ap (λ c. covers r.token s.mask (hash_in whole a) i || (nat_lt i bound && c)) settled
           ∙ ap (λ c. covers r.token s.mask (hash_in whole a) i || c) (and-swap (nat_lt i bound) true)
 
-  standing : IsTrue (is_projection m.setting p) → IsStanding m.setting m.cells b r.token
+  pub standing : IsTrue (is_projection m.setting p) → IsStanding m.setting m.cells b r.token
   standing projection = record {
     old = refl;
     new = advance-adds m.cells bound within r.token over.each;
@@ -126,4 +122,4 @@ module _ (m : State) (actor p : ℕ) (s : Segment) (most : ℕ) (r : TokenRow) (
 -- ---- the step
 
 pub kept-fetch : (m : State) (actor p : ℕ) (s : Segment) (most : ℕ) → IsTrue (is_projection m.setting p) → IsWellFormed m → IsWellFormed (fetch_at m actor p s most).state
-kept-fetch m actor p s most projection h = kept-on_held_row m actor p s (λ r. fetched m actor (batch_of m p s most r)) h (λ r f held. kept-fetched m actor p s most r f h projection held)
+kept-fetch m actor p s most projection h = kept-on_held_row m actor p s (λ r. fetched m actor (fetched_batch m p s most r)) h (λ r f held. kept-fetched m actor p s most r f h projection held)

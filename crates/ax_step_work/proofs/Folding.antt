@@ -1,20 +1,21 @@
 -- Folds of covered items, and what the items of a batch add to them.
-use Rattle.std.proofs.Common.{◌≡◌, ℕ, ◌&&◌, Bool, true, false, not, List, [], ◌∷◌, ◌++◌, map, length, filter, take, Option, None, Result, Ok, Err, if◌then◌else◌, append_assoc, refl, sym, ap, ◌∙◌, subst, arith}
-use Rattle.std.specs.Prelude.{IsOk}
+use Rattle.std.proofs.Common.{◌≡◌, ℕ, ◌&&◌, Bool, true, false, not, List, [], ◌∷◌, ◌++◌, map, length, filter, take, None, Result, Ok, Err, if◌then◌else◌, refl, sym, ap, ◌∙◌, arith}
 use Rattle.std.specs.List.{AllByRecursion, list_all}
-use Rattle.std.proofs.lemmas.List.{take_all, append-nil}
+use Rattle.std.proofs.lemmas.List.{take_all}
 use Rattle.std.proofs.lemmas.Slice.Eq.{bytes_eq-Decides}
 use Rattle.ax_values.specs.Grammar.{Name}
+use Rattle.ax_values.specs.Words.{same_name}
 use Rattle.ax_laws.proofs.Tests.{both, and-false, and-swap}
 use Rattle.ax_laws.proofs.Lists.{none-pass}
 use Rattle.ax_log.specs.Log.{Stored, is_of, stream_in}
 use Rattle.ax_rules.specs.Expr.{Row}
-use Rattle.ax_rules.specs.Rules.{Rules, and_then, applied, fold_from, fold_items}
+use Rattle.ax_rules.specs.Rules.{Rules, and_then, applied, fold_from, fold_items, start_row, row_or}
 use Rattle.ax_projections.specs.Items.{Placed, plain_items}
-use Rattle.ax_state.specs.Positions.{undropped}
+use Rattle.ax_state.specs.Setting.{projection_at}
+use Rattle.ax_state.specs.State.{State}
+use Rattle.ax_state.specs.Positions.{undropped, row_of}
 use Rattle.ax_state.specs.Portions.{items_in, row_by}
 use Rattle.ax_state.specs.WellFormed.{is_prefix_test}
-use Rattle.ax_step_work.specs.Working.{Failure, failure_or, first_failure, row_behind, share_of, is_item_of}
 use Rattle.ax_values.specs.declared.item.Item.{Item}
 use Rattle.ax_rules.specs.declared.cause.Cause.{Cause}
 use Rattle.ax_upcast.specs.declared.upcaster.Upcaster.{Upcaster}
@@ -84,6 +85,21 @@ covered-split old new (e ∷ es) more h = split-by old new e es (old e.index) re
 
 -- ---- rows
 
+abbrev pub is_placed_of : Name → Placed → Bool
+is_placed_of a x = same_name x.item.name.aggregate a
+
+-- the items of an aggregate
+abbrev pub share_of : Name → List Placed → List Placed
+share_of a xs = filter (is_placed_of a) xs
+
+-- the row of an aggregate, which a well-formed state defines
+abbrev pub present_row : State → ℕ → Name → Row
+present_row m p a = row_or (start_row (projection_at m.setting p).fields) (row_of m p a)
+
+-- the row of an aggregate after its items, or the first cause
+abbrev pub row_behind : Rules → (Name → Row) → List Placed → Name → Result Row Cause
+row_behind rules row xs a = fold_from rules (plain_items (share_of a xs)) (row a)
+
 undropped-none : (xs : List Placed) → undropped [] xs ≡ xs
 undropped-none [] = refl
 undropped-none (x ∷ xs) = ap (λ ys. x ∷ ys) (undropped-none xs)
@@ -100,32 +116,3 @@ fold-append rules (x ∷ xs) ys row = at (applied rules row x) (λ r. fold-appen
         → and_then o (λ next. fold_from rules (xs ++ ys) next) ≡ and_then (and_then o (λ next. fold_from rules xs next)) (λ r. fold_from rules ys r)
     at (Err c) again = refl
     at (Ok r) again = again r
-
--- ---- no failure
-
-share-append : (a : Name) (xs ys : List Placed) → share_of a (xs ++ ys) ≡ share_of a xs ++ share_of a ys
-share-append a [] ys = refl
-share-append a (x ∷ xs) ys =
-    elim (is_item_of a x) as (λ b. (if b then x ∷ share_of a (xs ++ ys) else share_of a (xs ++ ys)) ≡ (if b then x ∷ share_of a xs else share_of a xs) ++ share_of a ys)
-    [ true ↦ ap (λ zs. x ∷ zs) (share-append a xs ys) | false ↦ share-append a xs ys ]
-
-module _ (rules : Rules) (row : Name → Row) where
-  abbrev Behind : List Placed → Type 0
-  Behind xs = (a : Name) → IsOk (row_behind rules row xs a)
-
-  next-by : (before : List Placed) (x : Placed) (a : Name) (b : Bool) → is_item_of a x ≡ b → IsOk (row_behind rules row (before ++ x ∷ []) x.item.name.aggregate) → Behind before → IsOk (row_behind rules row (before ++ x ∷ []) a)
-  next-by before x a true e ok all = subst (λ n. IsOk (row_behind rules row (before ++ x ∷ []) n)) ((bytes_eq-Decides x.item.name.aggregate a).0 e) ok
-  next-by before x a false e ok all =
-      let same : share_of a (before ++ x ∷ []) ≡ share_of a before = share-append a before (x ∷ []) ∙ ap (λ b. share_of a before ++ (if b then x ∷ [] else [])) e ∙ append-nil (share_of a before) in
-      subst (λ xs. IsOk (fold_from rules (plain_items xs) (row a))) (sym same) (all a)
-
-  no-by : (x : Placed) (later : Option Failure) (o : Result Row Cause) → failure_or x.item.name later o ≡ None → (later ≡ None) × IsOk o
-  no-by x later (Ok r) h = (h, refl)
-  no-by x later (Err c) h = absurd (cc)
-
-  -- where none fails, each aggregate's items apply
-  pub no-failure : (xs before : List Placed) → first_failure rules row before xs ≡ None → Behind before → Behind (before ++ xs)
-  no-failure [] before h all = subst Behind (sym (append-nil before)) all
-  no-failure (x ∷ xs) before h all =
-      let k = no-by x (first_failure rules row (before ++ x ∷ []) xs) (row_behind rules row (before ++ x ∷ []) x.item.name.aggregate) h in
-      subst Behind (append_assoc before (x ∷ []) xs) (no-failure xs (before ++ x ∷ []) k.0 (λ a. next-by before x a (is_item_of a x) refl k.1 all))

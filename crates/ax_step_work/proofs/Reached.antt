@@ -13,7 +13,8 @@ use Rattle.ax_tokens.specs.Plain.{Plain, contains, has, is_canonical_plain}
 use Rattle.ax_tokens.specs.Tokens.{Token, covers}
 use Rattle.ax_tokens.proofs.Sets.{above-first, gaps-below}
 use Rattle.ax_tokens.proofs.Gaps.{canonical-rises, canonical-below}
-use Rattle.ax_step_work.specs.Working.{is_new, new_below, is_fetched}
+use Rattle.ax_state.specs.Batches.{is_fetched}
+use Rattle.ax_step_work.specs.Working.{is_new, new_below}
 use Rattle.ax_step_work.specs.Reach.{IsCoveredBelow, IsOpenFrom}
 use Rattle.ax_laws.proofs.Tests.{and-left, and-false}
 

@@ -1,26 +1,25 @@
 -- The table of a processor after a commit: each row is the fold of what is covered then, and a new row finds a place.
-use Rattle.std.proofs.Common.{◌≡◌, ℕ, suc, ◌*◌, ◌≤◌, Bool, true, false, not, ◌||◌, cond, List, [], ◌∷◌, length, map, filter, flat_map, take, Option, Some, None, Result, Ok, Err, is_some, if◌then◌else◌, refl, sym, ap, ◌∙◌, subst, true≢false, arith}
+use Rattle.std.proofs.Common.{◌≡◌, ℕ, suc, ◌*◌, ◌≤◌, Bool, true, false, not, ◌||◌, cond, find, option_map, List, [], ◌∷◌, length, map, filter, flat_map, take, Option, Some, None, Result, Ok, Err, is_some, if◌then◌else◌, refl, sym, ap, ◌∙◌, subst, true≢false, arith}
 use Rattle.std.specs.List.{AllByRecursion, IsDistinct, list_any}
 use Rattle.std.proofs.lemmas.List.{length-map, length-append, take_all}
 use Rattle.std.proofs.lemmas.Map.Keys.{IsDistinct-head, IsDistinct-tail}
 use Rattle.ax_values.specs.Grammar.{Name}
 use Rattle.ax_values.specs.Words.{same_name}
-use Rattle.ax_log.specs.Log.{Stored, events, events_from, stream_in, is_of}
+use Rattle.ax_log.specs.Log.{Stored, events, stream_in, is_of}
 use Rattle.ax_rules.specs.Expr.{Row}
 use Rattle.ax_rules.specs.Rules.{Rules, and_then, applied, fold_from, start_row, row_or}
 use Rattle.ax_upcast.specs.Upcast.{KeepsLimit, upcast, numbered, chained, event_of_record}
 use Rattle.ax_projections.specs.Table.{Entry, look_up, put_entry}
 use Rattle.ax_projections.specs.Items.{placed, placed_items, plain_items}
-use Rattle.ax_projections.specs.Rebuild.{without}
-use Rattle.ax_projections.proofs.NameLaws.{name-is, name-sym, name-refl, length-without}
+use Rattle.ax_projections.specs.Rebuild.{without, or_start}
+use Rattle.ax_projections.specs.declared.table.Positioned.{Positioned}
+use Rattle.ax_projections.proofs.NameLaws.{name-is, name-sym, name-refl, name-alike, length-without}
 use Rattle.ax_projections.proofs.RowLaws.{length_applied}
 use Rattle.ax_state.specs.Portions.{Portion, covered_events, items_in, row_by}
 use Rattle.ax_state.specs.State.{Batch}
 use Rattle.ax_state.proofs.Grow.{events-few}
-use Rattle.ax_step_work.specs.Working.{is_fetched, fetched_events, batch_items}
-use Rattle.ax_step_work.specs.Handling.{first_of}
+use Rattle.ax_state.specs.Batches.{is_fetched, fetched_events, batch_items}
 use Rattle.ax_step_work.proofs.Folding.{filter-swap, row-now}
-use Rattle.ax_step_work.proofs.Handled.{look-first, look-put}
 use Rattle.ax_values.specs.declared.cell.Cell.{Cell}
 use Rattle.ax_values.specs.declared.item.Item.{Item}
 use Rattle.ax_rules.specs.declared.cause.Cause.{Cause}
@@ -28,6 +27,46 @@ use Rattle.ax_rules.specs.declared.rules.Initial.{Initial}
 use Rattle.ax_upcast.specs.declared.upcaster.Upcaster.{Upcaster}
 use Rattle.ax_upcast.specs.declared.event.Event.{Event}
 use Rattle.ax_laws.proofs.Lists.{length-filter}
+
+-- ---- tables
+
+abbrev pub first_of : Option Positioned → Option Positioned → Option Positioned
+first_of None later = later
+first_of (Some v) later = Some v
+
+-- the row of an aggregate: the changed one, else the kept one, else the first values
+abbrev pub present : Rules → List Entry → List Entry → Name → Positioned
+present rules kept changed a = or_start rules (first_of (look_up a changed) (look_up a kept))
+
+pub look-first : (b : Name) (x : Entry) (xs : List Entry) (q : Bool) → same_name b x.name ≡ q → look_up b (x ∷ xs) ≡ (if q then Some x.value else look_up b xs)
+look-first b x xs q h = ap (λ c. option_map (λ (e : Entry). e.value) (cond c (Some x) (find (λ (e : Entry). same_name b e.name) xs))) h ∙ at q
+  where
+    at : (q : Bool) → option_map (λ (e : Entry). e.value) (cond q (Some x) (find (λ (e : Entry). same_name b e.name) xs)) ≡ (if q then Some x.value else look_up b xs)
+    at true = refl
+    at false = refl
+
+pub look-put : (a b : Name) (v : Positioned) (es : List Entry) → look_up b (put_entry a v es) ≡ (if same_name a b then Some v else look_up b es)
+look-put a b v [] = look-first b (record { name = a; value = v }) [] (same_name a b) (name-sym b a)
+look-put a b v (e ∷ es) = at (same_name a e.name) refl (same_name b e.name) refl (same_name a b) refl (look-put a b v es)
+  where
+    at : (p : Bool) → same_name a e.name ≡ p → (q : Bool) → same_name b e.name ≡ q → (r : Bool) → same_name a b ≡ r → look_up b (put_entry a v es) ≡ (if same_name a b then Some v else look_up b es)
+        → look_up b (if p then record { name = e.name; value = v } ∷ es else e ∷ put_entry a v es) ≡ (if r then Some v else look_up b (e ∷ es))
+    at true hp true hq true hr h = look-first b (record { name = e.name; value = v }) es true hq
+    at true hp false hq false hr h = look-first b (record { name = e.name; value = v }) es false hq ∙ sym (look-first b e es false hq)
+    at true hp true hq false hr h = absurd (true≢false (sym hq ∙ name-sym b e.name ∙ sym (name-alike a e.name b hp) ∙ hr))
+    at true hp false hq true hr h = absurd (true≢false (sym hr ∙ name-alike a e.name b hp ∙ name-sym e.name b ∙ hq))
+    at false hp true hq true hr h = absurd (true≢false (sym hq ∙ sym (name-alike a b e.name hr) ∙ hp))
+    at false hp true hq false hr h = look-first b e (put_entry a v es) true hq ∙ sym (look-first b e es true hq)
+    at false hp false hq true hr h = look-first b e (put_entry a v es) false hq ∙ h ∙ ap (λ c. if c then Some v else look_up b es) hr
+    at false hp false hq false hr h = look-first b e (put_entry a v es) false hq ∙ h ∙ ap (λ c. if c then Some v else look_up b es) hr ∙ sym (look-first b e es false hq)
+
+pub length-put : (a : Name) (v : Positioned) (es : List Entry) → length (put_entry a v es) ≤ suc (length es)
+length-put a v [] = omega arith
+length-put a v (e ∷ es) = at (same_name a e.name) (length-put a v es)
+  where
+    at : (p : Bool) → length (put_entry a v es) ≤ suc (length es) → length (if p then record { name = e.name; value = v } ∷ es else e ∷ put_entry a v es) ≤ suc (suc (length es))
+    at true h = omega arith
+    at false h = omega (arith, h)
 
 -- ---- distinct names among others are no more than these
 
@@ -53,7 +92,7 @@ others-stay : (n : Name) (ns ms : List Name) → AllByRecursion (λ y. same_name
 others-stay n [] ms d h = tt
 others-stay n (a ∷ ns) ms d h = (any-other a n ms d.0 h.0, others-stay n ns ms d.1 h.1)
 
-no-more : (ns ms : List Name) → IsDistinct same_name ns → AllByRecursion (λ a. list_any (same_name a) ms ≡ true) ns → length ns ≤ length ms
+pub no-more : (ns ms : List Name) → IsDistinct same_name ns → AllByRecursion (λ a. list_any (same_name a) ms ≡ true) ns → length ns ≤ length ms
 no-more [] ms d h = omega arith
 no-more (n ∷ ns) ms d h =
     let k : length ns ≤ length (without n ms) = no-more ns (without n ms) (IsDistinct-tail same_name n ns d) (others-stay n ns ms (IsDistinct-head same_name n ns d) h.1) in

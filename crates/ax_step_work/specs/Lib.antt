@@ -1,3 +1,4 @@
 pub mod Working
-pub mod Handling
+pub mod Sharing
+pub mod Installing
 pub mod Reach

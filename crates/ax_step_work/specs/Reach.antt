@@ -6,7 +6,7 @@ use Rattle.ax_log.specs.Log.{events_from, events}
 use Rattle.ax_segments.specs.Segments.{Segment}
 use Rattle.ax_tokens.specs.Plain.{has}
 use Rattle.ax_tokens.specs.Tokens.{Token, plain, merged, replay, covers}
-use Rattle.ax_step_work.specs.Working.{is_fetched}
+use Rattle.ax_state.specs.Batches.{is_fetched}
 
 -- each index below n is covered, for every hash
 abbrev pub IsCoveredBelow : Token → ℕ → Type 0

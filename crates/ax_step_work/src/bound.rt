@@ -4,7 +4,8 @@ ghost use Rattle.ax_log.specs.Log.{events, first_reserved};
 ghost use Rattle.ax_log.specs.Order.{max_cells};
 ghost use Rattle.ax_tokens.specs.Nodes.{token_of};
 ghost use Rattle.ax_tokens.specs.Tokens.{gaps_fit, max_gaps};
-ghost use Rattle.ax_step_work.specs.Working.{is_new, new_below, is_fetched, fetch_limit, fetched_token};
+ghost use Rattle.ax_state.specs.Batches.{is_fetched};
+ghost use Rattle.ax_step_work.specs.Working.{is_new, new_below, fetch_limit, fetched_token};
 
 use crate::reach::{fetchable, low_of};
 use ax_segments::{Segment, hash_in};

@@ -1,24 +1,23 @@
-ghost use Rattle.std.specs.Prelude.{◌≡◌, ◌<◌, ◌∷◌, [], ◌++◌, length, map, Some, None, Ok, Err, slice_get, IfOk, OnOk};
-ghost use Rattle.std.specs.List.{IsDistinct};
-ghost use Rattle.ax_values.specs.Words.{same_name};
+ghost use Rattle.std.specs.Prelude.{◌≡◌, ◌<◌, ◌∷◌, [], length, Some, None, Ok, Err, slice_get, IfOk};
 ghost use Rattle.ax_rules.specs.Why.{why_text};
-ghost use Rattle.ax_rules.specs.declared.why.Why.{Why};
-ghost use Rattle.ax_projections.specs.Table.{Entry};
+ghost use Rattle.ax_state.specs.Setting.{projection_at};
 ghost use Rattle.ax_state.specs.State.{desk_at};
+ghost use Rattle.ax_state.specs.Batches.{batch_of};
 ghost use Rattle.ax_world.specs.WorldTables.{state_of, rows_at};
 ghost use Rattle.ax_world.specs.Moves.{IsMove};
 ghost use Rattle.ax_world.specs.declared.edit.Edit.{Edit};
 ghost use Rattle.ax_journal.specs.declared.reply.Reply.{Reply};
-ghost use Rattle.ax_step_work.specs.Working.{commit, commit_batch};
-ghost use Rattle.ax_step_work.specs.Handling.{row_edits, stored, install_move, IsStale, stale_reply};
+ghost use Rattle.ax_step_work.specs.Working.{commit, commit_batch, left_text};
+ghost use Rattle.ax_step_work.specs.Installing.{IsCleared, stored};
 
-use crate::handling::{Changes, Failed, handle_batch};
-use ax_claims::{Refused, Rows};
+use crate::installing::{install, store_batch};
+use crate::tally::first_left;
+use ax_basis::{Basis, BasisItem, Handled, Outcome, handle};
+use ax_claims::Rows;
 use ax_journal::Reply;
-use ax_projections::Table;
 use ax_rules::Why;
 use ax_values::{Duplicate, Line, NoMemory};
-use ax_world::{Batch, Desk, Edit, Edits, Move, World};
+use ax_world::{Desk, Edit, Edits, Move, World};
 use std::alloc::Global;
 
 /// Folds the batch of the actor's desk into the rows of its processor.
@@ -29,160 +28,142 @@ pub(crate) fn commit(alloc: Global, world: &World, actor: u32) -> Result<Move, N
     world.facts();
     match &world.desk(actor).batch {
         None => Ok(Move::without_edits(alloc, Reply::NoBatch)),
-        Some(batch) => commit_batch(alloc, world, actor, batch),
+        Some(basis) => commit_basis(alloc, world, actor, basis),
     }
 }
 
-fn commit_batch(alloc: Global, world: &World, actor: u32, batch: &Batch) -> Result<Move, NoMemory>
-    requires actor { actor < length world.now.tables.desks }
-    requires batch { (desk_at (state_of world.now.tables) actor).batch ≡ Some batch.now }
-    ensures { IfOk result (IsMove world.now.tables (commit_batch (state_of world.now.tables) actor (Some batch.now))) }
+/// Handles the batch of the actor's desk, and commits it.
+fn commit_basis(alloc: Global, world: &World, actor: u32, basis: &Basis) -> Result<Move, NoMemory>
+    requires actor { actor < length world.now.tables.setting.actors }
+    requires batch { slice_get world.now.tables.bases actor ≡ Some (Some basis.now) }
+    ensures { IfOk result (IsMove world.now.tables (commit (state_of world.now.tables) actor)) }
 {
-    let now = world.clock();
-    match store_batch(alloc, world.rows(batch.processor), now, batch)? {
-        Ok(rows) => commit_rows(alloc, world, actor, batch, rows),
-        Err(reply) => give_up(alloc, world, actor, reply),
-    }
+    world.facts();
+    let _ = &world.desk(actor).batch;
+    let rules = world.projection(basis.processor);
+    let basis = basis.copy(alloc)?;
+    let handled = handle(alloc, basis, rules)?;
+    commit_with(alloc, world, actor, handled)
 }
 
-/// The rows with the batch's token, or the reply that the batch's row is gone or under another fence.
-fn store_batch(
-    alloc: Global,
-    rows: &Rows,
-    now: u64,
-    batch: &Batch,
-) -> Result<Result<Rows, Reply>, NoMemory>
-    ensures { IfOk result (λ made. made ≡ stored now batch.now rows.now) }
-{
-    let mut rows = rows.copy(alloc)?;
-    match rows.store(batch.segment, batch.fence, batch.new.copy(alloc)?, now) {
-        Ok(()) => Ok(Ok(rows)),
-        Err((refused, _token)) => Ok(Err(stale_reply(refused))),
-    }
-}
-
-fn stale_reply(refused: Refused) -> Reply
-    requires { IsStale refused }
-    ensures { result ≡ stale_reply refused }
-{
-    match refused {
-        Refused::Stale { held, found } => Reply::Stale { held, found },
-        Refused::NoSegment => unreachable!(),
-        Refused::Claimed { .. } => unreachable!(),
-        Refused::NotHeld => unreachable!(),
-        Refused::MaskFull => unreachable!(),
-        Refused::Alone => unreachable!(),
-    }
-}
-
-/// Applies the items of a batch whose row is under its fence. The rows have the batch's token already.
-fn commit_rows(
+/// What the commit of a batch makes of the world: the batch of the actor's desk, which was handled by the rules of its
+/// processor.
+///
+/// Stale comes where the batch's row is gone or has another fence: the batch is given up. NotApplied, with the item and the
+/// cause, comes for the first item that does not apply, by sequence: this changes nothing. Else the reply is Committed, with
+/// the number of items: the rows are those after the items, the segment's token is the batch's, at the clock's time, and the
+/// desk holds no batch.
+pub fn commit_with(
     alloc: Global,
     world: &World,
     actor: u32,
-    batch: &Batch,
-    rows: Rows,
+    handled: Handled,
 ) -> Result<Move, NoMemory>
-    requires actor { actor < length world.now.tables.desks }
-    requires batch { (desk_at (state_of world.now.tables) actor).batch ≡ Some batch.now }
-    requires rows { Ok rows ≡ stored world.now.tables.clock batch.now (rows_at world.now.tables batch.now.processor) }
-    ensures { IfOk result (IsMove world.now.tables (commit_batch (state_of world.now.tables) actor (Some batch.now))) }
+    requires actor { actor < length world.now.tables.setting.actors }
+    requires batch { slice_get world.now.tables.bases actor ≡ Some (Some handled.basis) }
+    requires rules { handled.rules ≡ projection_at world.now.tables.setting handled.basis.processor }
+    ensures { IfOk result (IsMove world.now.tables (commit (state_of world.now.tables) actor)) }
 {
     world.facts();
-    let chain = world.sheet().chain();
-    let _ = chain.parts();
-    let rules = world.projection(batch.processor);
-    let kept = world.table(batch.processor);
-    let _ = kept.len();
-    let cells = world.log().cells();
-    match handle_batch(alloc, None, chain, rules, kept, cells, batch)? {
-        Ok(changes) => install(alloc, world, actor, batch.processor, rows, changes),
-        Err(failed) => not_applied(alloc, failed),
-    }
-}
-
-/// The batch is dropped.
-fn give_up(alloc: Global, world: &World, actor: u32, reply: Reply) -> Result<Move, NoMemory>
-    requires { actor < length world.now.tables.desks }
-    ensures { IfOk result (λ made. made ≡ record { edits = Edit.SetDesk actor (record (desk_at (state_of world.now.tables) actor) { batch = None }) ∷ []; reply = reply; report = [] }) }
-{
+    let _ = &world.desk(actor).batch;
     let desk = without_batch(alloc, world, actor)?;
-    let mut edits = Edits::new(alloc);
-    edits.push(Edit::SetDesk { actor, desk })?;
-    Ok(Move::of(alloc, edits, reply))
+    let made = commit_handled(alloc, world, actor, &handled, desk);
+    drop(handled);
+    made
 }
 
+/// The desk of the actor without its batch.
 fn without_batch(alloc: Global, world: &World, actor: u32) -> Result<Desk, NoMemory>
     requires { actor < length world.now.tables.desks }
-    ensures { IfOk result (λ desk. desk ≡ record (desk_at (state_of world.now.tables) actor) { batch = None }) }
+    ensures { IfOk result (IsCleared world.now.tables actor) }
 {
     world.desk(actor).with_batch(alloc, None)
 }
 
-/// The reply that an item does not apply. Nothing changes, and the batch stays.
-fn not_applied(alloc: Global, failed: Failed) -> Result<Move, NoMemory>
-    ensures { IfOk result (λ made. made ≡ record { edits = []; reply = Reply.NotApplied failed.item (why_text (Why.Failed failed.cause)); report = [] }) }
-{
-    let item = failed.item;
-    let mut why = Vec::new(alloc);
-    Why::Failed(failed.cause).write(&mut why)?;
-    let why = Line::of(why);
-    Ok(Move::without_edits(alloc, Reply::NotApplied { item, why }))
-}
-
-/// Puts the changed rows and the token rows, and drops the batch.
-fn install(
+fn commit_handled(
     alloc: Global,
     world: &World,
     actor: u32,
-    processor: u32,
-    rows: Rows,
-    changes: Changes,
+    handled: &Handled,
+    desk: Desk,
 ) -> Result<Move, NoMemory>
-    requires { actor < length world.now.tables.desks }
-    ensures value { IfOk result (λ made. made ≡ install_move processor changes rows actor (desk_at (state_of world.now.tables) actor)) }
-    ensures names { IfOk result (λ made. IsDistinct same_name (map (λ row. row.name) changes.rows)) }
+    requires actor { actor < length world.now.tables.desks }
+    requires batch { slice_get world.now.tables.bases actor ≡ Some (Some handled.now.basis) }
+    requires mine { (desk_at (state_of world.now.tables) actor).batch ≡ Some (batch_of handled.now.basis) }
+    requires rules { handled.now.rules ≡ projection_at world.now.tables.setting handled.now.basis.processor }
+    requires desk { IsCleared world.now.tables actor desk }
+    ensures { IfOk result (IsMove world.now.tables (commit_batch (state_of world.now.tables) actor (Some (batch_of handled.now.basis)))) }
 {
-    let applied = changes.items;
-    let desk = without_batch(alloc, world, actor)?;
+    let now = world.clock();
+    let basis = handled.basis();
+    match store_batch(alloc, world.rows(basis.processor), now, basis)? {
+        Ok(rows) => commit_rows(alloc, world, actor, handled, rows, desk),
+        Err(reply) => give_up(alloc, actor, desk, reply),
+    }
+}
+
+/// Applies a batch whose row is under its fence. The rows have the batch's token already.
+fn commit_rows(
+    alloc: Global,
+    world: &World,
+    actor: u32,
+    handled: &Handled,
+    rows: Rows,
+    desk: Desk,
+) -> Result<Move, NoMemory>
+    requires actor { actor < length world.now.tables.desks }
+    requires batch { slice_get world.now.tables.bases actor ≡ Some (Some handled.now.basis) }
+    requires mine { (desk_at (state_of world.now.tables) actor).batch ≡ Some (batch_of handled.now.basis) }
+    requires rules { handled.now.rules ≡ projection_at world.now.tables.setting handled.now.basis.processor }
+    requires rows { Ok rows ≡ stored world.now.tables.clock (batch_of handled.now.basis) (rows_at world.now.tables handled.now.basis.processor) }
+    requires desk { IsCleared world.now.tables actor desk }
+    ensures { IfOk result (IsMove world.now.tables (commit_batch (state_of world.now.tables) actor (Some (batch_of handled.now.basis)))) }
+{
+    world.facts();
+    let _ = world.sheet().chain().parts();
+    let _ = world.table(handled.basis().processor).len();
+    match first_left(handled) {
+        Some((item, outcome)) => {
+            drop(rows);
+            drop(desk);
+            not_applied(alloc, item, outcome)
+        }
+        None => install(alloc, actor, handled, rows, desk),
+    }
+}
+
+/// The batch is dropped.
+fn give_up(alloc: Global, actor: u32, desk: Desk, reply: Reply) -> Result<Move, NoMemory>
+    ensures { IfOk result (λ made. made ≡ record { edits = Edit.SetDesk actor desk ∷ []; reply = reply; report = [] }) }
+{
     let mut edits = Edits::new(alloc);
-    push_rows(alloc, &mut edits, processor, &changes.rows)?;
-    edits.push(Edit::SetRows { processor, rows })?;
     edits.push(Edit::SetDesk { actor, desk })?;
-    let reply = Reply::Committed {
-        applied,
-        parked: 0,
-        dropped: 0,
-    };
     Ok(Move::of(alloc, edits, reply))
 }
 
-/// Adds an edit for each row.
-fn push_rows(alloc: Global, edits: &mut Edits, processor: u32, rows: &Table) -> Result<(), NoMemory>
-    ensures value { OnOk result (edits.new ≡ edits.old ++ row_edits processor rows.now.entries) }
-    ensures names { IsDistinct same_name (map (λ row. row.name) rows.now.entries) }
+/// The reply that an item does not apply. Nothing changes, and the batch stays.
+fn not_applied(alloc: Global, item: &BasisItem, outcome: &Outcome) -> Result<Move, NoMemory>
+    ensures { IfOk result (λ made. made ≡ record { edits = []; reply = Reply.NotApplied item.now.item.name (left_text outcome.now); report = [] }) }
 {
-    for place in 0..rows.len() {
-        push_row(alloc, edits, processor, rows, place)?;
-    }
-    Ok(())
+    let item = item.item.name.copy(alloc)?;
+    let why = left_text(alloc, outcome)?;
+    Ok(Move::without_edits(alloc, Reply::NotApplied { item, why }))
 }
 
-fn push_row(
-    alloc: Global,
-    edits: &mut Edits,
-    processor: u32,
-    rows: &Table,
-    place: u32,
-) -> Result<(), NoMemory>
-    ensures { OnOk result ((row : Entry) → slice_get rows.now.entries place ≡ Some row → edits.new ≡ edits.old ++ Edit.PutRow processor row.name row.value ∷ []) }
+fn left_text(alloc: Global, outcome: &Outcome) -> Result<Line, NoMemory>
+    ensures { IfOk result (λ text. text ≡ left_text outcome.now) }
 {
-    if let Some((aggregate, value)) = rows.at(place) {
-        edits.push(Edit::PutRow {
-            processor,
-            aggregate: aggregate.copy(alloc)?,
-            value: value.copy(alloc)?,
-        })?;
+    match outcome {
+        Outcome::Applied => Ok(Line::new(alloc)),
+        Outcome::Parked(why) => why_text(alloc, why),
+        Outcome::Dropped(why) => why_text(alloc, why),
     }
-    Ok(())
+}
+
+fn why_text(alloc: Global, why: &Why) -> Result<Line, NoMemory>
+    ensures { IfOk result (λ text. text ≡ why_text why.now) }
+{
+    let mut text = Vec::new(alloc);
+    why.write(&mut text)?;
+    Ok(Line::of(text))
 }

@@ -5,14 +5,20 @@ ghost use Rattle.ax_state.specs.State.{desk_at};
 ghost use Rattle.ax_world.specs.Holding.{held_fence};
 ghost use Rattle.ax_world.specs.WorldTables.{state_of, rows_at};
 ghost use Rattle.ax_world.specs.Moves.{IsMove};
-ghost use Rattle.ax_step_work.specs.Working.{fetch_at, fetched, batch_of};
+ghost use Rattle.ax_tokens.specs.Nodes.{token_of};
+ghost use Rattle.ax_step_work.specs.Working.{fetch_at, fetched, fetched_batch};
+ghost use Rattle.ax_step_work.specs.Sharing.{read_shares, taken};
 
 use crate::bound::{count_fetched, fetched_token};
+use crate::gathering::fetched_items;
+use crate::sharing::shares_of;
+use ax_basis::{Basis, Shares};
 use ax_claims::TokenRow;
 use ax_journal::Reply;
 use ax_segments::Segment;
+use ax_tokens::Token;
 use ax_values::{Duplicate, NoMemory};
-use ax_world::{Batch, Edit, Edits, Move, World, held_check, held_fence};
+use ax_world::{Edit, Edits, Move, World, held_check, held_fence};
 use std::alloc::Global;
 
 /// Puts a batch of at most so many records on the actor's desk.
@@ -53,20 +59,44 @@ fn fetch_row(
     requires actor { actor < length world.now.tables.setting.actors }
     requires found { row_at row.now.segment (rows_at world.now.tables processor) ≡ Some row.now }
     requires held { held_fence processor row.now.segment (desk_at (state_of world.now.tables) actor).held ≡ Some row.now.fence }
-    ensures { IfOk result (IsMove world.now.tables (fetched (state_of world.now.tables) actor (batch_of (state_of world.now.tables) processor row.now.segment most row.now))) }
+    ensures { IfOk result (IsMove world.now.tables (fetched (state_of world.now.tables) actor (fetched_batch (state_of world.now.tables) processor row.now.segment most row.now))) }
 {
+    world.facts();
     let cells = world.log().cells();
     let new = fetched_token(alloc, None, row.segment, &row.token, cells, most)?;
     let records = count_fetched(None, row.segment, &row.token, &new, cells);
-    let batch = Batch {
+    let shares = gather(alloc, world, processor, row.segment, &row.token, &new)?;
+    let old = row.token.copy(alloc)?;
+    let basis = Basis {
         processor,
         segment: row.segment,
         fence: row.fence,
-        old: row.token.copy(alloc)?,
+        old,
         new,
+        keep: true,
+        shares,
     };
-    let desk = world.desk(actor).with_batch(alloc, Some(batch))?;
+    let desk = world.desk(actor).with_batch(alloc, Some(basis))?;
     let mut edits = Edits::new(alloc);
     edits.push(Edit::SetDesk { actor, desk })?;
     Ok(Move::of(alloc, edits, Reply::Fetched { records }))
+}
+
+/// The items that the new token covers and the old one does not, by aggregate, with the rows that are kept.
+fn gather(
+    alloc: Global,
+    world: &World,
+    processor: u32,
+    segment: Segment,
+    old: &Token,
+    new: &Token,
+) -> Result<Shares, NoMemory>
+    requires { IsTrue (is_projection world.now.tables.setting processor) }
+    ensures { IfOk result (λ shares. shares ≡ read_shares world.now.tables processor (taken segment (token_of old.now) (token_of new.now))) }
+{
+    world.facts();
+    let chain = world.sheet().chain();
+    let items = fetched_items(alloc, chain, segment, old, new, world.log().cells())?;
+    let rules = world.projection(processor);
+    shares_of(alloc, rules, world.table(processor), items)
 }

@@ -4,8 +4,12 @@
 mod bound;
 mod committing;
 mod fetching;
-mod handling;
+mod gathering;
+mod installing;
 mod reach;
+mod sharing;
 mod steps;
+mod tally;
 
+pub use committing::commit_with;
 pub use steps::step;

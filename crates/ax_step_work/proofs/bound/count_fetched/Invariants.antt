@@ -3,7 +3,7 @@ use Rattle.std.proofs.Common.{◌≡◌, ◌+◌, ◌≤◌, length, filter, dro
 use Rattle.ax_log.specs.Log.{events_from, events}
 use Rattle.std.specs.Option.{option_copied}
 use Rattle.ax_tokens.specs.Nodes.{token_of}
-use Rattle.ax_step_work.specs.Working.{is_fetched}
+use Rattle.ax_state.specs.Batches.{is_fetched}
 use Rattle.ax_step_work.proofs.bound.count_fetched.Given as goal
 
 abbrev pub invariant-loop-offset : goal.invariant-loop-offset

@@ -1,36 +1,35 @@
-use Rattle.std.proofs.Common.{◌<◌, ◌∙◌, IsTrue, length, ap, sym, subst}
+use Rattle.std.proofs.Common.{◌∙◌, Some, ap, subst, map}
+use Rattle.std.specs.List.{IsDistinct}
 use Rattle.std.proofs.lemmas.Result.{IfOk-weaker}
-use Rattle.ax_state.specs.Setting.{is_projection}
-use Rattle.ax_state.specs.State.{Batch}
-use Rattle.ax_step_work.proofs.Commits.{batch-declared, batch-within, fits-read, failed-answer, installed-answer}
-use Rattle.ax_laws.proofs.Options.{both-ok}
+use Rattle.ax_values.specs.Words.{same_name}
+use Rattle.ax_upcast.specs.Upcast.{KeepsLimit}
+use Rattle.ax_basis.specs.Basis.{Basis}
+use Rattle.ax_world.specs.WorldTables.{processor_tables_at}
+use Rattle.ax_world.proofs.StepMoves.{basis-at}
+use Rattle.ax_step_work.specs.Installing.{tell}
+use Rattle.ax_step_work.proofs.Commits.{single-answer, count-answer, failed-answer, installed-answer}
 use Rattle.ax_step_work.proofs.committing.commit_rows.Goals as goal
 
-pub projection-rules-requires : goal.projection-rules-requires
-projection-rules-requires c =
-    subst (λ p. IsTrue (is_projection c.args.world.now.tables.setting p)) (sym (ap (λ (b : Batch). b.processor) c.batch.view_is))
-    (batch-declared c.args.world.now.tables c.args.actor c.args.batch.now c.facts.ensures c.requires.batch)
+pub install-requires-clause-single : goal.install-requires-clause-single
+install-requires-clause-single c =
+    single-answer c.args.world.now.tables c.args.actor c.args.handled.now.basis c.facts.ensures c.requires.mine (basis-at c.args.world.now.tables c.args.actor (Some c.args.handled.now.basis) c.facts.ensures c.requires.batch)
+    c.args.handled.now.rules c.requires.rules c.args.rows c.requires.rows (subst KeepsLimit (c.chain.ensures.value ∙ ap (λ s. s.chain) c.sheet.ensures) c.parts.ensures.few)
 
-pub table-kept-requires : goal.table-kept-requires
-table-kept-requires c =
-    subst (λ p. p < length c.args.world.now.tables.processor_tables) (sym (ap (λ (b : Batch). b.processor) c.batch.view_is))
-    (batch-within c.args.world.now.tables c.args.actor c.args.batch.now c.facts.ensures c.requires.batch)
+pub install-requires-clause-few : goal.install-requires-clause-few
+install-requires-clause-few c =
+    count-answer c.args.world.now.tables c.args.actor c.args.handled.now.basis c.facts.ensures c.requires.mine (basis-at c.args.world.now.tables c.args.actor (Some c.args.handled.now.basis) c.facts.ensures c.requires.batch)
+    c.args.handled.now.rules c.requires.rules c.args.rows c.requires.rows (subst KeepsLimit (c.chain.ensures.value ∙ ap (λ s. s.chain) c.sheet.ensures) c.parts.ensures.few)
 
-pub handle_batch-requires-clause-fits : goal.handle_batch-requires-clause-fits
-handle_batch-requires-clause-fits c =
-    fits-read c.args.world.now.tables c.args.actor c.args.batch.now c.facts.ensures c.requires.batch c.batch.inside.processor c.projection-rules.result.now c.table-kept.result.now.entries c.chain-chain.result.now
-    (ap (λ (b : Batch). b.processor) c.batch.view_is) c.projection-rules.ensures c.table-kept.ensures (c.chain-chain.ensures.value ∙ ap (λ s. s.chain) c.sheet.ensures) c.parts.ensures.few
-
-pub returns-in-Err : goal.returns-in-Err
-returns-in-Err c =
+pub returns-in-Some : goal.returns-in-Some
+returns-in-Some c =
     IfOk-weaker c.not_applied.result _ _
-    (λ mv e. failed-answer c.args.world.now.tables c.args.actor c.args.batch.now c.facts.ensures c.requires.batch c.batch.inside.processor c.projection-rules.result.now c.table-kept.result.now.entries c.chain-chain.result.now
-    (ap (λ (b : Batch). b.processor) c.batch.view_is) c.projection-rules.ensures c.table-kept.ensures (c.chain-chain.ensures.value ∙ ap (λ s. s.chain) c.sheet.ensures) c.cells-cells.result.now (c.cells-cells.ensures.value ∙ c.log.ensures.value)
-    c.args.rows c.requires.rows c.in-Err.failed mv (sym c.in-Err.is ∙ c.in_ok-changes.ensures) e) c.not_applied.ensures
+    (λ mv e. failed-answer c.args.world.now.tables c.args.actor c.args.handled.now.basis c.facts.ensures c.requires.mine (basis-at c.args.world.now.tables c.args.actor (Some c.args.handled.now.basis) c.facts.ensures c.requires.batch)
+    c.args.handled.now.rules c.requires.rules c.args.rows c.requires.rows (tell c.in-Some.item.now c.in-Some.outcome.now) mv c.in-Some.ensures e) c.not_applied.ensures
 
-pub returns-in-Ok : goal.returns-in-Ok
-returns-in-Ok c =
+pub returns-in-None : goal.returns-in-None
+returns-in-None c =
     IfOk-weaker c.install.result _ _
-    (λ mv e. installed-answer c.args.world.now.tables c.args.actor c.args.batch.now c.facts.ensures c.requires.batch c.batch.inside.processor c.projection-rules.result.now c.table-kept.result.now.entries c.chain-chain.result.now
-    (ap (λ (b : Batch). b.processor) c.batch.view_is) c.projection-rules.ensures c.table-kept.ensures (c.chain-chain.ensures.value ∙ ap (λ s. s.chain) c.sheet.ensures) c.cells-cells.result.now (c.cells-cells.ensures.value ∙ c.log.ensures.value)
-    c.args.rows c.requires.rows c.in-Ok.changes mv (sym c.in-Ok.is ∙ c.in_ok-changes.ensures) c.parts.ensures.few c.len.ensures.names e.1 c.requires.actor e.0) (both-ok _ _ c.install.result c.install.ensures.value c.install.ensures.names)
+    (λ mv e. installed-answer c.args.world.now.tables c.args.actor c.args.handled.now.basis c.facts.ensures c.requires.mine (basis-at c.args.world.now.tables c.args.actor (Some c.args.handled.now.basis) c.facts.ensures c.requires.batch)
+    c.args.handled.now.rules c.requires.rules c.args.rows c.requires.rows c.args.desk mv c.in-None.ensures c.requires.desk (subst KeepsLimit (c.chain.ensures.value ∙ ap (λ s. s.chain) c.sheet.ensures) c.parts.ensures.few)
+    (subst (λ t. IsDistinct same_name (map (λ e. e.name) t)) (c.table.ensures ∙ ap (λ (b : Basis). (processor_tables_at c.args.world.now.tables b.processor).table) (c.behind-handled.view_is ∙ c.basis.ensures)) c.len.ensures.names)
+    c.requires.actor e) c.install.ensures

@@ -1,0 +1,151 @@
+-- The loops of a commit over shares and their results.
+use Rattle.std.proofs.Common.{◌≡◌, ℕ, zero, suc, ◌+◌, ◌<◌, Bool, true, false, List, [], ◌∷◌, ◌++◌, length, map, flat_map, drop, get_or, drop-cons, slice_get, Option, Some, None, find, if◌then◌else◌, append_assoc, refl, sym, ap, ◌∙◌, subst, arith}
+use Rattle.std.specs.List.{AllByRecursion}
+use Rattle.std.proofs.lemmas.List.{length-append, length-set}
+use Rattle.ax_values.specs.Grammar.{Name}
+use Rattle.ax_rules.specs.Expr.{Row}
+use Rattle.ax_rules.specs.Rules.{Rules}
+use Rattle.ax_basis.specs.Basis.{Share, member_names, member_rows}
+use Rattle.ax_basis.specs.Outcomes.{rows_after, share_result, outcomes}
+use Rattle.ax_step_work.specs.Working.{Told, told, told_share, is_left, first_left}
+use Rattle.ax_step_work.specs.Installing.{IsSingle, share_items, share_entries, entries_after, row_edits}
+use Rattle.ax_basis.specs.declared.item.BasisItem.{BasisItem}
+use Rattle.ax_basis.specs.declared.outcome.Outcome.{Outcome}
+use Rattle.ax_basis.specs.declared.outcome.ShareResult.{ShareResult}
+use Rattle.ax_projections.specs.Table.{Entry}
+use Rattle.ax_world.specs.declared.edit.Edit.{Edit}
+
+pub share-here : (ss : List Share) (i : ℕ) (s : Share) → i < length ss → s ≡ get_or ss i s → drop i ss ≡ s ∷ drop (i + 1) ss
+share-here ss i s lt e =
+    let next : suc i ≡ i + 1 = omega arith in
+    drop-cons ss i s lt ∙ ap (λ t. t ∷ drop (suc i) ss) (sym e) ∙ ap (λ n. s ∷ drop n ss) next
+
+-- ---- how many items
+
+pub next_count : (ss : List Share) (i : ℕ) (s : Share) → i < length ss → s ≡ get_or ss i s → length (share_items (drop i ss)) ≡ length s.items + length (share_items (drop (i + 1) ss))
+next_count ss i s lt e = ap (λ ts. length (share_items ts)) (share-here ss i s lt e) ∙ length-append s.items (share_items (drop (i + 1) ss))
+
+-- ---- the first that is left
+
+abbrev pub left_of : List BasisItem → List Outcome → Option Told
+left_of xs os = find (λ t. is_left t.outcome) (told xs os)
+
+told-suc : (xs : List BasisItem) (os : List Outcome) (i : ℕ) (x : BasisItem) (o : Outcome) → i < length xs → x ≡ get_or xs i x → slice_get os i ≡ Some o
+    → told (drop i xs) (drop i os) ≡ record { item = x; outcome = o } ∷ told (drop (suc i) xs) (drop (suc i) os)
+told-suc [] os i x o lt e h = absurd (omega arith)
+told-suc (y ∷ xs) [] i x o lt e h = absurd (cc)
+told-suc (y ∷ xs) (p ∷ os) zero x o lt e h = let is : p ≡ o = cc in ap (λ z. record { item = z; outcome = p } ∷ told xs os) (sym e) ∙ ap (λ q. record { item = x; outcome = q } ∷ told xs os) is
+told-suc (y ∷ xs) (p ∷ os) (suc i) x o lt e h = told-suc xs os i x o (omega arith) e h
+
+pub told-next : (xs : List BasisItem) (os : List Outcome) (i : ℕ) (x : BasisItem) (o : Outcome) → i < length xs → x ≡ get_or xs i x → slice_get os i ≡ Some o
+    → told (drop i xs) (drop i os) ≡ record { item = x; outcome = o } ∷ told (drop (i + 1) xs) (drop (i + 1) os)
+told-next xs os i x o lt e h = let next : suc i ≡ i + 1 = omega arith in told-suc xs os i x o lt e h ∙ ap (λ n. record { item = x; outcome = o } ∷ told (drop n xs) (drop n os)) next
+
+pub told-end : (xs : List BasisItem) (os : List Outcome) (i : ℕ) → slice_get os i ≡ None → told (drop i xs) (drop i os) ≡ []
+told-end xs [] zero h = none xs
+  where
+    none : (xs : List BasisItem) → told xs [] ≡ []
+    none [] = refl
+    none (x ∷ xs) = refl
+told-end xs [] (suc i) h = none (drop (suc i) xs)
+  where
+    none : (xs : List BasisItem) → told xs [] ≡ []
+    none [] = refl
+    none (x ∷ xs) = refl
+told-end xs (o ∷ os) zero h = absurd (cc)
+told-end [] (o ∷ os) (suc i) h = refl
+told-end (x ∷ xs) (o ∷ os) (suc i) h = told-end xs os i h
+
+-- the item at a place is left, or is not
+pub left-here : (xs : List BasisItem) (os : List Outcome) (i : ℕ) (x : BasisItem) (o : Outcome) (c : Bool) → i < length xs → x ≡ get_or xs i x → slice_get os i ≡ Some o → is_left o ≡ c
+    → left_of (drop i xs) (drop i os) ≡ (if c then Some (record { item = x; outcome = o }) else left_of (drop (i + 1) xs) (drop (i + 1) os))
+left-here xs os i x o c lt e h k =
+    ap (find (λ t. is_left t.outcome)) (told-next xs os i x o lt e h) ∙ ap (λ c. if c then Some (record { item = x; outcome = o }) else left_of (drop (i + 1) xs) (drop (i + 1) os)) k
+
+abbrev pub first_some : Option Told → Option Told → Option Told
+first_some None later = later
+first_some (Some t) later = Some t
+
+find-first : (ts us : List Told) → find (λ t. is_left t.outcome) (ts ++ us) ≡ first_some (find (λ t. is_left t.outcome) ts) (find (λ t. is_left t.outcome) us)
+find-first [] us = refl
+find-first (t ∷ ts) us = at (is_left t.outcome) (find-first ts us)
+  where
+    at : (c : Bool) → find (λ t. is_left t.outcome) (ts ++ us) ≡ first_some (find (λ t. is_left t.outcome) ts) (find (λ t. is_left t.outcome) us)
+        → (if c then Some t else find (λ t. is_left t.outcome) (ts ++ us)) ≡ first_some (if c then Some t else find (λ t. is_left t.outcome) ts) (find (λ t. is_left t.outcome) us)
+    at true h = refl
+    at false h = h
+
+-- one share more
+pub shares-next : (rules : Rules) (keep : Bool) (ss : List Share) (i : ℕ) (s : Share) (o : Option Told) → i < length ss → s ≡ get_or ss i s → left_of s.items (outcomes rules keep s) ≡ o
+    → first_left rules keep (drop i ss) ≡ first_some o (first_left rules keep (drop (i + 1) ss))
+shares-next rules keep ss i s o lt e h =
+    ap (first_left rules keep) (share-here ss i s lt e) ∙ find-first (told_share rules keep s) (flat_map (told_share rules keep) (drop (i + 1) ss)) ∙ ap (λ o. first_some o (first_left rules keep (drop (i + 1) ss))) h
+
+-- the result of a share stands in its place
+pub result-here : (rules : Rules) (keep : Bool) (ss : List Share) (i : ℕ) (s : Share) (made : ShareResult) → i < length ss → s ≡ get_or ss i s → made ≡ get_or (map (share_result rules keep) ss) i made → made ≡ share_result rules keep s
+result-here rules keep [] i s made lt e k = absurd (omega arith)
+result-here rules keep (t ∷ ss) zero s made lt e k = k ∙ ap (share_result rules keep) (sym e)
+result-here rules keep (t ∷ ss) (suc i) s made lt e k = result-here rules keep ss i s made (omega arith) e k
+
+-- what holds of each holds of the one at a place
+pub single-here : (ss : List Share) (i : ℕ) (s : Share) → AllByRecursion IsSingle ss → i < length ss → s ≡ get_or ss i s → IsSingle s
+single-here [] i s h lt e = absurd (omega arith)
+single-here (t ∷ ss) zero s h lt e = subst IsSingle (sym e) h.0
+single-here (t ∷ ss) (suc i) s h lt e = single-here ss i s h.1 (omega arith) e
+
+module _ (rules : Rules) (keep : Bool) (all ss : List Share) (rs : List ShareResult) (shares_are : ss ≡ all) (results_are : rs ≡ map (share_result rules keep) all) (i : ℕ) (s : Share) (made : ShareResult)
+    (lt : i < length ss) (here : s ≡ get_or ss i s) (there : made ≡ get_or rs i made) where
+  pub made-is : made ≡ share_result rules keep s
+  made-is = result-here rules keep ss i s made lt here (there ∙ ap (λ rs. get_or rs i made) results_are ∙ ap (λ ts. get_or (map (share_result rules keep) ts) i made) (sym shares_are))
+
+  module _ (xs : List BasisItem) (os : List Outcome) (o : Option Told) (items_are : xs ≡ s.items) (outcomes_are : os ≡ made.outcomes) (left : left_of xs os ≡ o) where
+    left-share : left_of s.items (outcomes rules keep s) ≡ o
+    left-share = ap (left_of s.items) (sym (outcomes_are ∙ ap (λ (r : ShareResult). r.outcomes) made-is)) ∙ ap (λ xs. left_of xs os) (sym items_are) ∙ left
+
+    left-then : first_left rules keep (drop i ss) ≡ first_some o (first_left rules keep (drop (i + 1) ss))
+    left-then = shares-next rules keep ss i s o lt here left-share
+
+    pub left-found : (t : Told) → o ≡ Some t → first_left rules keep (drop i ss) ≡ first_left rules keep ss → Some t ≡ first_left rules keep all
+    left-found t is same = sym (ap (λ o. first_some o (first_left rules keep (drop (i + 1) ss))) is) ∙ sym left-then ∙ same ∙ ap (first_left rules keep) shares_are
+
+    pub left-passed : o ≡ None → first_left rules keep (drop i ss) ≡ first_left rules keep ss → first_left rules keep (drop (i + 1) ss) ≡ first_left rules keep ss
+    left-passed is same = sym (ap (λ o. first_some o (first_left rules keep (drop (i + 1) ss))) is) ∙ sym left-then ∙ same
+
+-- ---- entries
+
+pub length-rows : (rules : Rules) (names : List Name) (xs : List BasisItem) (os : List Outcome) (rows : List Row) → length (rows_after rules names xs os rows) ≡ length rows
+length-rows rules names [] os rows = refl
+length-rows rules names (x ∷ xs) [] rows = refl
+length-rows rules names (x ∷ xs) (Outcome.Applied ∷ os) rows = length-rows rules names xs os _ ∙ length-set rows _ _
+length-rows rules names (x ∷ xs) (Outcome.Parked why ∷ os) rows = length-rows rules names xs os rows
+length-rows rules names (x ∷ xs) (Outcome.Dropped why ∷ os) rows = length-rows rules names xs os rows
+
+one-row : (rows : List Row) → length rows ≡ 1 → (row : Row) × (rows ≡ row ∷ [])
+one-row [] h = absurd (omega arith)
+one-row (r ∷ []) h = (r, refl)
+one-row (r ∷ s ∷ rs) h = absurd (omega arith)
+
+-- a share with one member has one row
+pub single-row : (rules : Rules) (keep : Bool) (s : Share) → IsSingle s → (row : Row) × ((share_result rules keep s).rows ≡ row ∷ [])
+single-row rules keep s h =
+    one-row (share_result rules keep s).rows (length-rows rules (member_names s.members) s.items (outcomes rules keep s) (member_rows s.members) ∙ ap (λ ms. length (member_rows ms)) h.1)
+
+pub edits-append : (p : ℕ) (es fs : List Entry) → row_edits p (es ++ fs) ≡ row_edits p es ++ row_edits p fs
+edits-append p [] fs = refl
+edits-append p (e ∷ es) fs = ap (λ xs. Edit.PutRow p e.name e.value ∷ xs) (edits-append p es fs)
+
+-- one share more
+pub next-rows : (front all new : List Edit) (p : ℕ) (rules : Rules) (keep : Bool) (ss : List Share) (i : ℕ) (s : Share) → i < length ss → s ≡ get_or ss i s → front ++ row_edits p (entries_after rules keep (drop i ss)) ≡ all
+    → new ≡ front ++ row_edits p (share_entries rules keep s) → new ++ row_edits p (entries_after rules keep (drop (i + 1) ss)) ≡ all
+next-rows front all new p rules keep ss i s lt e same pushed =
+    ap (λ es. es ++ row_edits p (entries_after rules keep (drop (i + 1) ss))) pushed
+    ∙ append_assoc front (row_edits p (share_entries rules keep s)) (row_edits p (entries_after rules keep (drop (i + 1) ss)))
+    ∙ ap (λ es. front ++ es) (sym (edits-append p (share_entries rules keep s) (entries_after rules keep (drop (i + 1) ss))))
+    ∙ ap (λ ts. front ++ row_edits p (entries_after rules keep ts)) (sym (share-here ss i s lt e)) ∙ same
+
+-- its row stands in its place
+pub row-there : (rules : Rules) (keep : Bool) (all ss : List Share) (rs : List ShareResult) (shares_are : ss ≡ all) (results_are : rs ≡ map (share_result rules keep) all) (i : ℕ) (s : Share) (made : ShareResult)
+    (lt : i < length ss) (here : s ≡ get_or ss i s) (there : made ≡ get_or rs i made) → AllByRecursion IsSingle all → (row : Row) × (made.rows ≡ row ∷ [])
+row-there rules keep all ss rs shares_are results_are i s made lt here there single =
+    let k = single-row rules keep s (single-here ss i s (subst (AllByRecursion IsSingle) (sym shares_are) single) lt here) in
+    (k.0, ap (λ (r : ShareResult). r.rows) (made-is rules keep all ss rs shares_are results_are i s made lt here there) ∙ k.1)
