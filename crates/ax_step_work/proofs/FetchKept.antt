@@ -64,6 +64,10 @@ module _ (m : State) (actor p : ℕ) (s : Segment) (most : ℕ) (r : TokenRow) (
   over = subst (λ (t : Segment). IsTokenOver m.cells t.mask r.token) place.2
       (All-get (λ x. IsTokenOver m.cells x.segment.mask x.token) rows place.0 r (All-rows (λ x. IsTokenOver m.cells x.segment.mask x.token) rows was.tokens) place.1)
 
+  -- a token of the state has few gaps
+  pub row-gaps : IsTrue (gaps_fit r.token)
+  row-gaps = over.gaps
+
   abbrev test : ℕ → Bool
   test = is_fetchable whole s r.token m.cells most
 

@@ -1,10 +1,9 @@
 -- What a fetch answers: a refusal changes nothing, and a batch leads to the state of the definition.
-use Rattle.std.proofs.Common.{◌≡◌, ℕ, ◌<◌, ◌==◌, Bool, true, false, IsTrue, List, [], ◌∷◌, length, filter, Option, Some, None, Result, Ok, Err, slice_get, if◌then◌else◌, refl, sym, ap, ◌∙◌, subst, arith}
-use Rattle.std.specs.Prelude.{IfOk}
+use Rattle.std.proofs.Common.{◌≡◌, ℕ, ◌<◌, ◌==◌, Bool, true, false, IsTrue, List, [], ◌∷◌, length, filter, Option, Some, None, slice_get, if◌then◌else◌, refl, sym, ap, ◌∙◌, subst, arith}
 use Rattle.std.proofs.lemmas.Bool.Decides.{nat_tests}
 use Rattle.ax_log.specs.Log.{events}
 use Rattle.ax_segments.specs.Segments.{Segment}
-use Rattle.ax_tokens.specs.Tokens.{Token}
+use Rattle.ax_tokens.specs.Tokens.{Token, gaps_fit}
 use Rattle.ax_claims.specs.Rows.{TokenRow, row_at}
 use Rattle.ax_state.specs.Every.{option_or}
 use Rattle.ax_state.specs.Setting.{is_projection, whole_at}
@@ -19,15 +18,11 @@ use Rattle.ax_world.specs.Moves.{IsMove}
 use Rattle.ax_world.proofs.StepMoves.{unmoved, moved}
 use Rattle.ax_world.proofs.ProcessorStates.{processor_state-place}
 use Rattle.ax_step_work.specs.Working.{is_fetched, batch_of, fetched, fetch_at, fetched_token}
-use Rattle.ax_step_work.proofs.FetchKept.{kept-fetched}
+use Rattle.ax_step_work.proofs.FetchKept.{row-gaps, kept-fetched}
 use Rattle.ax_step_work.proofs.NotWhole.{not-whole}
 use Rattle.ax_world.specs.declared.edit.Edit.{Edit}
 use Rattle.ax_journal.specs.declared.reply.Reply.{Reply}
 use Rattle.ax_values.specs.declared.cell.Cell.{Cell}
-
-pub ok-map : {A E : Type 0} (r : Result A E) (P Q : A → Type 0) → ((x : A) → P x → Q x) → IfOk r P → IfOk r Q
-ok-map (Ok x) P Q f h = f x h
-ok-map (Err e) P Q f h = tt
 
 -- ---- the batch
 
@@ -62,6 +57,9 @@ fetch-move w actor p most row old new t n cells records h projection lt found he
     reply = ap Reply.Fetched (records_are ∙ ap (λ cs. length (filter (is_fetched None row.segment row.token n) (events cs))) cells_are
         ∙ ap (λ o. length (filter (is_fetched o row.segment row.token n) (events w.cells))) (sym (not-whole w.setting p))
         ∙ ap (λ n. length (filter (is_fetched (whole_at w.setting p) row.segment row.token n) (events w.cells))) n_new)
+
+pub fetch-fits : (w : WorldTables) (actor p most : ℕ) (row : TokenRow) → IsWorld w → row_at row.segment (rows_at w p) ≡ Some row → IsTrue (gaps_fit row.token)
+fetch-fits w actor p most row h found = row-gaps (state_of w) actor p row.segment most row (ap (λ (x : ProcessorState). row_at row.segment x.rows) (processor_state-place w p) ∙ found) h.state
 
 -- ---- refusals
 

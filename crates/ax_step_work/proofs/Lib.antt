@@ -3,7 +3,11 @@ pub mod Covering
 pub mod FetchKept
 pub mod Folding
 pub mod CommitKept
+pub mod Opening
 pub mod Reached
+pub mod Walks
+pub mod FetchedWalk
+pub mod Halving
 pub mod Bounds
 pub mod Fetches
 pub mod Handled

@@ -7,7 +7,8 @@ ghost use Rattle.ax_world.specs.WorldTables.{state_of, rows_at};
 ghost use Rattle.ax_world.specs.Moves.{IsMove};
 ghost use Rattle.ax_step_work.specs.Working.{fetch_at, fetched, batch_of};
 
-use crate::bound::{count_fetched, fetched_token};
+use crate::bound::fetched_token;
+use crate::walk::count_fetched;
 use ax_claims::TokenRow;
 use ax_journal::Reply;
 use ax_segments::Segment;

@@ -7,5 +7,6 @@ mod fetching;
 mod handling;
 mod reach;
 mod steps;
+mod walk;
 
 pub use steps::step;
