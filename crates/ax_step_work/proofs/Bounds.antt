@@ -1,35 +1,17 @@
 -- How far a fetch goes.
-use Rattle.std.proofs.Common.{◌≡◌, ℕ, zero, suc, ◌+◌, ◌-◌, ◌<◌, ◌≤◌, ◌&&◌, Bool, true, false, List, [], ◌∷◌, length, length-drop, take, drop, min, get_or, Option, Some, None, Result, Ok, Err, if◌then◌else◌, refl, sym, ap, ◌∙◌, subst, arith, nat_lt, nat_le}
+use Rattle.std.proofs.Common.{◌≡◌, ℕ, zero, suc, ◌+◌, ◌<◌, ◌≤◌, ◌&&◌, Bool, true, false, not, List, [], ◌∷◌, length, get_or, Option, Some, None, Result, Ok, Err, if◌then◌else◌, refl, sym, ap, ◌∙◌, subst, arith, nat_lt, nat_le}
 use Rattle.std.specs.Prelude.{IfOk}
 use Rattle.std.proofs.lemmas.Bool.Decides.{nat_tests}
-use Rattle.std.proofs.lemmas.List.{get_or-take, get_or-drop, length-take}
-use Rattle.ax_log.specs.Log.{Stored, events_from, events, is_reserved, first_reserved}
+use Rattle.ax_log.specs.Log.{events, is_reserved, is_settled, first_reserved}
 use Rattle.ax_values.specs.Grammar.{Name}
-use Rattle.ax_laws.proofs.Tests.{and-false}
+use Rattle.ax_laws.proofs.Tests.{and-false, not-true}
 use Rattle.ax_segments.specs.Segments.{Segment}
 use Rattle.ax_tokens.specs.Tokens.{Token, advanced, collapsed, gaps_fit}
-use Rattle.ax_step_work.specs.Reach.{IsCoveredBetween, event_is}
+use Rattle.ax_step_work.specs.Reach.{IsCoveredBetween, HasSettled, event_is}
 use Rattle.ax_step_work.proofs.Reached.{new-covered}
 use Rattle.ax_step_work.proofs.Walks.{passed-same, passed-none, passed-more, step-out, count-in}
 use Rattle.ax_step_work.specs.Working.{is_new, new_below, is_fetchable, largest, fetch_limit, fetch_bound, fetched_token}
 use Rattle.ax_values.specs.declared.cell.Cell.{Cell}
-use Rattle.ax_values.specs.declared.record.Record.{Record}
-
--- ---- the events that are left
-
-drop-next : {A : Type 0} (xs : List A) (i : ℕ) (x : A) → i < length xs → x ≡ get_or xs i x → drop i xs ≡ x ∷ drop (i + 1) xs
-drop-next [] i x lt e = absurd (omega arith)
-drop-next (y ∷ ys) zero x lt e = ap (λ z. z ∷ ys) (sym e)
-drop-next (y ∷ ys) (suc i) x lt e = let next : suc i + 1 ≡ suc (i + 1) = omega arith in drop-next ys i x (omega arith) e ∙ ap (λ n. x ∷ drop n (y ∷ ys)) (sym next)
-
-drop-all : {A : Type 0} (xs : List A) (i : ℕ) → length xs ≤ i → drop i xs ≡ []
-drop-all [] i h = nothing i
-  where
-    nothing : {A : Type 0} (i : ℕ) → drop {A = A} i [] ≡ []
-    nothing zero = refl
-    nothing (suc i) = refl
-drop-all (x ∷ xs) zero h = absurd (omega arith)
-drop-all (x ∷ xs) (suc i) h = drop-all xs i (omega arith)
 
 -- ---- the bound by the number of events
 
@@ -60,15 +42,40 @@ module _ (whole : Option Name) (s : Segment) (t : Token) (cells : List Cell) whe
 
 -- ---- the limit
 
--- one cell more that is not reserved
-pub limit-next : (cells : List Cell) (i : ℕ) (c : Cell) → i < length cells → c ≡ get_or cells i c → is_reserved c ≡ false → first_reserved (drop i cells) ≡ suc (first_reserved (drop (i + 1) cells))
-limit-next cells i c lt e free = ap first_reserved (drop-next cells i c lt e) ∙ ap (λ b. if b then 0 else suc (first_reserved (drop (i + 1) cells))) free
+-- the first reserved cell is the first behind settled ones
+pub reserved-at : (cells : List Cell) (i : ℕ) (c : Cell) → i < length cells → c ≡ get_or cells i c → is_reserved c ≡ true → ((j : ℕ) → j < i → is_settled cells j ≡ true) → first_reserved cells ≡ i
+reserved-at [] i c lt e reserved h = absurd (omega arith)
+reserved-at (d ∷ cells) zero c lt e reserved h = ap (λ b. if b then 0 else suc (first_reserved cells)) (sym (ap is_reserved e) ∙ reserved)
+reserved-at (d ∷ cells) (suc i) c lt e reserved h =
+    ap (λ b. if b then 0 else suc (first_reserved cells)) (not-true (is_reserved d) (h 0 (omega arith)))
+    ∙ ap suc (reserved-at cells i c (omega arith) e reserved (λ j l. h (suc j) (omega arith)))
 
-pub limit-here : (cells : List Cell) (i : ℕ) (c : Cell) → i < length cells → c ≡ get_or cells i c → is_reserved c ≡ true → first_reserved (drop i cells) ≡ 0
-limit-here cells i c lt e reserved = ap first_reserved (drop-next cells i c lt e) ∙ ap (λ b. if b then 0 else suc (first_reserved (drop (i + 1) cells))) reserved
+pub reserved-none : (cells : List Cell) → ((j : ℕ) → j < length cells → is_settled cells j ≡ true) → first_reserved cells ≡ length cells
+reserved-none [] h = refl
+reserved-none (d ∷ cells) h =
+    ap (λ b. if b then 0 else suc (first_reserved cells)) (not-true (is_reserved d) (h 0 (omega arith))) ∙ ap suc (reserved-none cells (λ j l. h (suc j) (omega arith)))
 
-pub limit-end : (cells : List Cell) (i : ℕ) → length cells ≤ i → first_reserved (drop i cells) ≡ 0
-limit-end cells i h = ap first_reserved (drop-all cells i h)
+settled-at : (cells : List Cell) (i : ℕ) (c : Cell) → i < length cells → c ≡ get_or cells i c → is_reserved c ≡ false → is_settled cells i ≡ true
+settled-at [] i c lt e free = absurd (omega arith)
+settled-at (d ∷ cells) zero c lt e free = ap not (sym (ap is_reserved e) ∙ free)
+settled-at (d ∷ cells) (suc i) c lt e free = settled-at cells i c (omega arith) e free
+
+-- all cells below are settled
+abbrev pub IsSettledBelow : List Cell → ℕ → Type 0
+IsSettledBelow cells n = (j : ℕ) → j < n → is_settled cells j ≡ true
+
+pub settled-start : (t : Token) (cells : List Cell) (n : ℕ) → HasSettled t cells → IsCoveredBetween t 0 n → IsSettledBelow cells n
+settled-start t cells n h covered j lt = h 0 0 j (covered 0 0 j (omega arith) lt)
+
+pub settled-next : (t : Token) (cells : List Cell) (i n : ℕ) (c : Cell) → HasSettled t cells → i < length cells → c ≡ get_or cells i c → is_reserved c ≡ false → IsSettledBelow cells i → IsCoveredBetween t (i + 1) n → IsSettledBelow cells n
+settled-next t cells i n c h lt e free low covered j le = at (nat_lt j i) refl (nat_lt i j) refl
+  where
+    at : (b : Bool) → nat_lt j i ≡ b → (d : Bool) → nat_lt i j ≡ d → is_settled cells j ≡ true
+    at true k d l = low j (grind (arith, nat_tests, k))
+    at false k true l = h 0 0 j (covered 0 0 j (let over : i < j = grind (arith, nat_tests, l) in omega arith) le)
+    at false k false l =
+        let is : i ≡ j = (let a : i ≤ j = grind (arith, nat_tests, k) in let b : j ≤ i = grind (arith, nat_tests, l) in omega arith) in
+        subst (λ n. is_settled cells n ≡ true) is (settled-at cells i c lt e free)
 
 first_reserved-within : (cells : List Cell) → first_reserved cells ≤ length cells
 first_reserved-within [] = omega arith

@@ -23,8 +23,9 @@ use Rattle.ax_state.proofs.Frames.{seat-at, place-there, place-at}
 use Rattle.ax_state.proofs.Desks.{kept-batch, batch-here}
 use Rattle.ax_world.specs.Holding.{held_fence}
 use Rattle.ax_world.proofs.HeldFences.{held-owned, kept-on_held_row}
+use Rattle.ax_step_work.specs.Reach.{HasSettled}
 use Rattle.ax_step_work.specs.Working.{is_new, new_below, is_fetchable, largest, fetch_limit, fetch_bound, batch_of, fetched, fetch_at}
-use Rattle.ax_step_work.proofs.Advancing.{token-advanced, advance-adds, advanced-none}
+use Rattle.ax_step_work.proofs.Advancing.{covered-settled, token-advanced, advance-adds, advanced-none}
 use Rattle.ax_step_work.proofs.Bounds.{limit-within}
 use Rattle.ax_step_work.proofs.Covering.{rising-stream, settled-stream, prefix-grows, same-tests}
 use Rattle.ax_step_work.proofs.NotWhole.{gaps-allowed}
@@ -67,6 +68,10 @@ module _ (m : State) (actor p : ℕ) (s : Segment) (most : ℕ) (r : TokenRow) (
   -- a token of the state has few gaps
   pub row-gaps : IsTrue (gaps_fit r.token)
   row-gaps = over.gaps
+
+  -- and what it covers is settled
+  pub row-settled : HasSettled r.token m.cells
+  row-settled = covered-settled m.cells r.token over.each
 
   abbrev test : ℕ → Bool
   test = is_fetchable whole s r.token m.cells most

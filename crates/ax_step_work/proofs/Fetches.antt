@@ -17,8 +17,9 @@ use Rattle.ax_world.specs.Fits.{IsWorld}
 use Rattle.ax_world.specs.Moves.{IsMove}
 use Rattle.ax_world.proofs.StepMoves.{unmoved, moved}
 use Rattle.ax_world.proofs.ProcessorStates.{processor_state-place}
+use Rattle.ax_step_work.specs.Reach.{HasSettled}
 use Rattle.ax_step_work.specs.Working.{is_fetched, batch_of, fetched, fetch_at, fetched_token}
-use Rattle.ax_step_work.proofs.FetchKept.{row-gaps, kept-fetched}
+use Rattle.ax_step_work.proofs.FetchKept.{row-gaps, row-settled, kept-fetched}
 use Rattle.ax_step_work.proofs.NotWhole.{not-whole}
 use Rattle.ax_world.specs.declared.edit.Edit.{Edit}
 use Rattle.ax_journal.specs.declared.reply.Reply.{Reply}
@@ -60,6 +61,9 @@ fetch-move w actor p most row old new t n cells records h projection lt found he
 
 pub fetch-fits : (w : WorldTables) (actor p most : ℕ) (row : TokenRow) → IsWorld w → row_at row.segment (rows_at w p) ≡ Some row → IsTrue (gaps_fit row.token)
 fetch-fits w actor p most row h found = row-gaps (state_of w) actor p row.segment most row (ap (λ (x : ProcessorState). row_at row.segment x.rows) (processor_state-place w p) ∙ found) h.state
+
+pub fetch-settled : (w : WorldTables) (actor p most : ℕ) (row : TokenRow) → IsWorld w → row_at row.segment (rows_at w p) ≡ Some row → HasSettled row.token w.cells
+fetch-settled w actor p most row h found = row-settled (state_of w) actor p row.segment most row (ap (λ (x : ProcessorState). row_at row.segment x.rows) (processor_state-place w p) ∙ found) h.state
 
 -- ---- refusals
 

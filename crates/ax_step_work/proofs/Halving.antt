@@ -1,11 +1,11 @@
 -- A bound to which a token is advanced with few gaps: whatever lies below it is one too.
-use Rattle.std.proofs.Common.{◌≡◌, ℕ, zero, suc, ◌+◌, ◌<◌, ◌≤◌, ◌&&◌, ◌||◌, Bool, true, false, not, IsTrue, List, [], ◌∷◌, length, filter, max, if◌then◌else◌, refl, sym, ap, ◌∙◌, subst, arith, nat_lt, nat_le}
+use Rattle.std.proofs.Common.{◌≡◌, ℕ, zero, suc, ◌+◌, ◌<◌, ◌≤◌, ◌&&◌, ◌||◌, Bool, true, false, not, List, [], ◌∷◌, length, filter, max, if◌then◌else◌, refl, sym, ap, ◌∙◌, arith, nat_le}
 use Rattle.std.proofs.lemmas.Bool.Decides.{nat_tests}
 use borrow.Author.Tests.{lt-ltb}
 use Rattle.ax_values.specs.declared.cell.Cell.{Cell}
 use Rattle.ax_log.specs.Log.{is_settled}
 use Rattle.ax_laws.proofs.Tests.{and-left, and-right, and-true}
-use Rattle.ax_tokens.specs.Plain.{Plain, has, numbers_from, below, end_of, plain_of, settles, advanced_plain, is_canonical_plain}
+use Rattle.ax_tokens.specs.Plain.{Plain, has, numbers_from, below, end_of, settles, advanced_plain, is_canonical_plain}
 use Rattle.ax_tokens.specs.Tokens.{Token, plain, merged, replay, advanced, gaps_fit, max_gaps, is_canonical}
 use Rattle.ax_tokens.proofs.Gaps.{grown}
 

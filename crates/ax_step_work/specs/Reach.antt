@@ -1,8 +1,8 @@
 -- How far a token reaches: between which indexes it covers all, and from which on it covers none.
-use Rattle.std.specs.Prelude.{◌≡◌, ℕ, ◌<◌, ◌≤◌, Bool, true, false, ◌||◌, List, Option, filter}
+use Rattle.std.specs.Prelude.{◌≡◌, ℕ, ◌<◌, ◌≤◌, Bool, true, false, ◌||◌, IsTrue, List, Option, filter}
 use Rattle.ax_values.specs.Grammar.{Name}
 use Rattle.ax_values.specs.declared.cell.Cell.{Cell}
-use Rattle.ax_log.specs.Log.{Stored, events_from, events}
+use Rattle.ax_log.specs.Log.{Stored, events_from, events, is_settled}
 use Rattle.ax_segments.specs.Segments.{Segment}
 use Rattle.ax_tokens.specs.Plain.{has}
 use Rattle.ax_tokens.specs.Tokens.{Token, plain, merged, replay, covers}
@@ -15,6 +15,10 @@ IsCoveredBetween t a n = (mask hash index : ℕ) → a ≤ index → index < n �
 -- no index from n on is covered, for any hash
 abbrev pub IsOpenFrom : Token → ℕ → Type 0
 IsOpenFrom t n = (mask hash index : ℕ) → n ≤ index → covers t mask hash index ≡ false
+
+-- what it covers is not reserved in these cells
+abbrev pub HasSettled : Token → List Cell → Type 0
+HasSettled t cells = (mask hash index : ℕ) → covers t mask hash index ≡ true → IsTrue (is_settled cells index)
 
 -- whether some half has covered the index
 abbrev pub some_has : Token → ℕ → Bool

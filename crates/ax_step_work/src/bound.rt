@@ -1,10 +1,10 @@
 ghost use Rattle.std.specs.Prelude.{◌≡◌, ℕ, ◌<◌, ◌≤◌, false, length, nat_le, IsTrue, IfOk};
 ghost use Rattle.std.specs.Option.{option_copied};
-ghost use Rattle.ax_log.specs.Log.{events, first_reserved};
+ghost use Rattle.ax_log.specs.Log.{events, is_reserved, first_reserved};
 ghost use Rattle.ax_log.specs.Order.{max_cells};
 ghost use Rattle.ax_tokens.specs.Nodes.{token_of};
 ghost use Rattle.ax_tokens.specs.Tokens.{advanced, gaps_fit, max_gaps};
-ghost use Rattle.ax_step_work.specs.Reach.{event_is};
+ghost use Rattle.ax_step_work.specs.Reach.{HasSettled, event_is};
 ghost use Rattle.ax_step_work.specs.Working.{is_new, new_below, is_fetched, fetch_limit, fetched_token};
 
 use crate::reach::next_open;
@@ -57,27 +57,42 @@ fn gaps_fit(token: &Token) -> bool
     }
 }
 
-/// The index of the first reserved cell, or the log's length.
-fn first_reserved(cells: &[Cell]) -> u32
-    requires { length cells.now ≤ max_cells }
+fn is_reserved(cell: &Cell) -> bool
+    ensures { result ≡ is_reserved cell.now }
+{
+    match cell {
+        Cell::Reserved { .. } => true,
+        Cell::Event(_) | Cell::Void => false,
+    }
+}
+
+/// The index of the first reserved cell, or the log's length. Only cells that the token does not cover for some hash are
+/// looked at, since what it covers is not reserved.
+fn first_reserved(token: &Token, cells: &[Cell]) -> u32
+    requires size { length cells.now ≤ max_cells }
+    requires settled { HasSettled (token_of token.now) cells.now }
     ensures { result ≡ first_reserved cells.now }
 {
-    for (index, cell) in cells.iter().enumerate() {
-        if let Cell::Reserved { .. } = cell {
-            return index as u32;
+    let end = cells.len() as u32;
+    let mut index = next_open(token, 0);
+    while index < end {
+        if is_reserved(&cells[index as usize]) {
+            return index;
         }
+        index = next_open(token, index + 1);
     }
-    cells.len() as u32
+    end
 }
 
 /// How far a fetch may go: to the log's end, or to the first reserved cell where the processor is whole.
-fn fetch_limit(whole: Option<&Name>, cells: &[Cell]) -> u32
-    requires { length cells.now ≤ max_cells }
+fn fetch_limit(whole: Option<&Name>, token: &Token, cells: &[Cell]) -> u32
+    requires size { length cells.now ≤ max_cells }
+    requires settled { HasSettled (token_of token.now) cells.now }
     ensures { result ≡ fetch_limit (option_copied whole.entry) cells.now }
 {
     match whole {
         None => cells.len() as u32,
-        Some(_) => first_reserved(cells),
+        Some(_) => first_reserved(token, cells),
     }
 }
 
@@ -168,11 +183,12 @@ pub(crate) fn fetched_token(
     most: u32,
 ) -> Result<Token, NoMemory>
     requires fits { IsTrue (gaps_fit (token_of token.now)) }
+    requires settled { HasSettled (token_of token.now) cells.now }
     requires size { length cells.now ≤ max_cells }
     ensures { IfOk result (λ new. token_of new ≡ fetched_token (option_copied whole.entry) segment (token_of token.now) cells.now most) }
 {
     token.facts();
-    let limit = fetch_limit(whole, cells);
+    let limit = fetch_limit(whole, token, cells);
     let bound = bound_of(whole, segment, token, cells, limit, most);
     let new = token.advance(alloc, cells, bound)?;
     if gaps_fit(&new) {
