@@ -135,3 +135,16 @@ covers-keeps test n (replay r c) mask h i e = plain-keeps test n c i e
 pub advanced-keeps : (cells : List Cell) (old new : Token) (mask h i : ℕ) → Advanced cells old new → covers old mask h i ≡ true → covers new mask h i ≡ true
 advanced-keeps cells old new mask h i a e =
     ap (λ t. covers t mask h i) a.new_is ∙ covers-collapsed (with_added (contains a.added) a.bound old) mask h i ∙ covers-keeps (contains a.added) a.bound old mask h i e
+
+-- ---- what is covered is settled
+
+pub covered-settled : (cells : List Cell) (t : Token) → AllByRecursion (IsPlainOver cells) (parts t) → (mask h i : ℕ) → covers t mask h i ≡ true → is_settled cells i ≡ true
+covered-settled cells (plain p) each mask h i e = each.0.settled i e
+covered-settled cells (merged l u) each mask h i e =
+    at (is_upper mask h) e (covered-settled cells l (All-left (IsPlainOver cells) (parts l) (parts u) each) (half_mask mask) h i) (covered-settled cells u (All-right (IsPlainOver cells) (parts l) (parts u) each) (half_mask mask) h i)
+  where
+    at : (c : Bool) → covers_here (if c then half u (half_mask mask) h else half l (half_mask mask) h) i ≡ true → (covers l (half_mask mask) h i ≡ true → is_settled cells i ≡ true) → (covers u (half_mask mask) h i ≡ true → is_settled cells i ≡ true)
+        → is_settled cells i ≡ true
+    at true e l u = u e
+    at false e l u = l e
+covered-settled cells (replay r c) each mask h i e = each.1.0.settled i e

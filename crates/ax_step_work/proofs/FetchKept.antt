@@ -20,8 +20,9 @@ use Rattle.ax_state.proofs.Frames.{seat-at, place-there, place-at}
 use Rattle.ax_state.proofs.Desks.{kept-batch, batch-here}
 use Rattle.ax_world.specs.Holding.{held_fence}
 use Rattle.ax_world.proofs.HeldFences.{held-owned, kept-on_held_row}
+use Rattle.ax_step_work.specs.Reach.{HasSettled}
 use Rattle.ax_step_work.specs.Working.{is_new, new_below, is_fetchable, largest, fetch_limit, fetch_bound, fetched_batch, fetched, fetch_at}
-use Rattle.ax_step_work.proofs.Advancing.{token-advanced, advance-adds, advanced-none}
+use Rattle.ax_step_work.proofs.Advancing.{covered-settled, token-advanced, advance-adds, advanced-none}
 use Rattle.ax_step_work.proofs.Bounds.{limit-within}
 use Rattle.ax_step_work.proofs.Covering.{rising-stream, settled-stream, prefix-grows, same-tests}
 use Rattle.ax_step_work.proofs.NotWhole.{gaps-allowed}
@@ -59,6 +60,14 @@ module _ (m : State) (actor p : ℕ) (s : Segment) (most : ℕ) (r : TokenRow) (
   pub over : IsTokenOver m.cells s.mask r.token
   over = subst (λ (t : Segment). IsTokenOver m.cells t.mask r.token) place.2
       (All-get (λ x. IsTokenOver m.cells x.segment.mask x.token) rows place.0 r (All-rows (λ x. IsTokenOver m.cells x.segment.mask x.token) rows was.tokens) place.1)
+
+  -- a token of the state has few gaps
+  pub row-gaps : IsTrue (gaps_fit r.token)
+  row-gaps = over.gaps
+
+  -- and what it covers is settled
+  pub row-settled : HasSettled r.token m.cells
+  row-settled = covered-settled m.cells r.token over.each
 
   abbrev test : ℕ → Bool
   test = is_fetchable whole s r.token m.cells most

@@ -1,11 +1,11 @@
 -- What a fetch answers: a refusal changes nothing, and a batch leads to the state of the definition.
-use Rattle.std.proofs.Common.{◌≡◌, ℕ, ◌<◌, ◌==◌, Bool, true, false, IsTrue, List, [], ◌∷◌, length, filter, Option, Some, None, Result, Ok, Err, slice_get, if◌then◌else◌, refl, sym, ap, ◌∙◌, subst, arith}
+use Rattle.std.proofs.Common.{◌≡◌, ℕ, ◌<◌, ◌==◌, Bool, true, false, IsTrue, List, [], ◌∷◌, length, filter, Option, Some, None, slice_get, if◌then◌else◌, refl, sym, ap, ◌∙◌, subst, arith}
 use Rattle.std.specs.Prelude.{IfOk, IfSome, slice_set}
 use Rattle.std.specs.List.{AllByRecursion}
 use Rattle.std.proofs.lemmas.Bool.Decides.{nat_tests}
 use Rattle.ax_log.specs.Log.{events}
 use Rattle.ax_segments.specs.Segments.{Segment}
-use Rattle.ax_tokens.specs.Tokens.{Token}
+use Rattle.ax_tokens.specs.Tokens.{Token, gaps_fit}
 use Rattle.ax_claims.specs.Rows.{TokenRow, row_at}
 use Rattle.ax_state.specs.Every.{option_or}
 use Rattle.ax_state.specs.Setting.{is_projection, projection_at, whole_at}
@@ -25,16 +25,13 @@ use Rattle.ax_state.specs.WellFormed.{IsTokenOver}
 use Rattle.ax_state.proofs.Lists.{All-set}
 use Rattle.ax_step_work.specs.Sharing.{read_shares}
 use Rattle.ax_step_work.proofs.KeptRows.{shares-read}
+use Rattle.ax_step_work.specs.Reach.{HasSettled}
 use Rattle.ax_step_work.specs.Working.{fetched_batch, fetched, fetch_at, fetched_token}
-use Rattle.ax_step_work.proofs.FetchKept.{kept-fetched, over, standing}
+use Rattle.ax_step_work.proofs.FetchKept.{row-gaps, row-settled, kept-fetched, over, standing}
 use Rattle.ax_step_work.proofs.NotWhole.{not-whole}
 use Rattle.ax_world.specs.declared.edit.Edit.{Edit}
 use Rattle.ax_journal.specs.declared.reply.Reply.{Reply}
 use Rattle.ax_values.specs.declared.cell.Cell.{Cell}
-
-pub ok-map : {A E : Type 0} (r : Result A E) (P Q : A → Type 0) → ((x : A) → P x → Q x) → IfOk r P → IfOk r Q
-ok-map (Ok x) P Q f h = f x h
-ok-map (Err e) P Q f h = tt
 
 -- ---- the batch
 
@@ -86,6 +83,12 @@ fetch-move w actor p most row old new x cells records h projection lt found held
       where
         rest : read_shares w p (batch_of x) ≡ shares_of (whole_at w.setting x.processor) (projection_at w.setting x.processor) w.setting.sheet.chain (batch_of x) (events w.cells)
         rest = subst (λ (c : Batch). read_shares w p c ≡ shares_of (whole_at w.setting c.processor) (projection_at w.setting c.processor) w.setting.sheet.chain c (events w.cells)) (sym x_is) (shares-read w p h projection b row found refl)
+
+pub fetch-fits : (w : WorldTables) (actor p most : ℕ) (row : TokenRow) → IsWorld w → row_at row.segment (rows_at w p) ≡ Some row → IsTrue (gaps_fit row.token)
+fetch-fits w actor p most row h found = row-gaps (state_of w) actor p row.segment most row (ap (λ (x : ProcessorState). row_at row.segment x.rows) (processor_state-place w p) ∙ found) h.state
+
+pub fetch-settled : (w : WorldTables) (actor p most : ℕ) (row : TokenRow) → IsWorld w → row_at row.segment (rows_at w p) ≡ Some row → HasSettled row.token w.cells
+fetch-settled w actor p most row h found = row-settled (state_of w) actor p row.segment most row (ap (λ (x : ProcessorState). row_at row.segment x.rows) (processor_state-place w p) ∙ found) h.state
 
 -- ---- refusals
 

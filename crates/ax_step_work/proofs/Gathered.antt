@@ -2,6 +2,7 @@
 use Rattle.std.proofs.Common.{◌≡◌, ℕ, suc, ◌+◌, ◌<◌, Bool, true, false, List, [], ◌∷◌, ◌++◌, length, map, filter, flat_map, drop, get_or, drop-cons, slice_set, None, Result, Ok, Err, if◌then◌else◌, refl, sym, ap, ◌∙◌, subst, arith}
 use Rattle.std.specs.Prelude.{insert, OnOk}
 use Rattle.std.proofs.lemmas.List.{map-append}
+use Rattle.std.proofs.lemmas.Grind.{flat_map-append}
 use Rattle.std.proofs.lemmas.Option.{get_or_from_slice_get}
 use Rattle.ax_laws.proofs.Tests.{or-false}
 use Rattle.ax_values.specs.Grammar.{Name}
@@ -24,49 +25,14 @@ pub on-ok-then : {T E P Q : Type 0} (r : Result T E) → OnOk r P → (P → Q) 
 on-ok-then (Ok x) h f = f h
 on-ok-then (Err e) h f = tt
 
--- ---- the items of one cell more
+-- ---- the items of one event more
 
 module _ (chain : List Upcaster) (b : Batch) where
-  abbrev pub event_items : Stored → List BasisItem
-  event_items e = map (basis_item None b) (placed_items chain e)
+  abbrev pub items_of_events : List Stored → List BasisItem
+  items_of_events es = map (basis_item None b) (flat_map (placed_items chain) es)
 
-  abbrev pub items_left : ℕ → List Cell → List BasisItem
-  items_left k cells = map (basis_item None b) (batch_items None chain b (events_from k cells))
-
-  abbrev stored : ℕ → Record → Stored
-  stored k r = record { index = k; record_of = r }
-
-  event-by : (k : ℕ) (r : Record) (cells : List Cell) (c : Bool) → is_fetched None b.segment b.old b.new (stored k r) ≡ c → items_left k (Cell.Event r ∷ cells) ≡ (if c then event_items (stored k r) else []) ++ items_left (suc k) cells
-  event-by k r cells c e =
-      ap (λ c. map (basis_item None b) (flat_map (placed_items chain) (if c then stored k r ∷ fetched_events None b (events_from (suc k) cells) else fetched_events None b (events_from (suc k) cells)))) e ∙ at c
-    where
-      at : (c : Bool) → map (basis_item None b) (flat_map (placed_items chain) (if c then stored k r ∷ fetched_events None b (events_from (suc k) cells) else fetched_events None b (events_from (suc k) cells)))
-          ≡ (if c then event_items (stored k r) else []) ++ items_left (suc k) cells
-      at true = map-append (basis_item None b) (placed_items chain (stored k r)) (batch_items None chain b (events_from (suc k) cells))
-      at false = refl
-
-  other-by : (k : ℕ) (c : Cell) (cells : List Cell) → ((r : Record) → c ≡ Cell.Event r → ⊥) → items_left k (c ∷ cells) ≡ items_left (suc k) cells
-  other-by k (Cell.Event r) cells h = absurd (h r refl)
-  other-by k (Cell.Reserved a s w t) cells h = refl
-  other-by k Cell.Void cells h = refl
-
-  module _ (first : ℕ) (cells : List Cell) (i : ℕ) (c : Cell) (lt : i < length cells) (here : c ≡ get_or cells i c) where
-    at-place : items_left (first + i) (drop i cells) ≡ items_left (first + i) (c ∷ drop (i + 1) cells)
-    at-place = let next : suc i ≡ i + 1 = omega arith in ap (items_left (first + i)) (drop-cons cells i c lt ∙ ap (λ d. d ∷ drop (suc i) cells) (sym here) ∙ ap (λ n. c ∷ drop n cells) next)
-
-    one-on : items_left (suc (first + i)) (drop (i + 1) cells) ≡ items_left (first + (i + 1)) (drop (i + 1) cells)
-    one-on = let more : suc (first + i) ≡ first + (i + 1) = omega arith in ap (λ n. items_left n (drop (i + 1) cells)) more
-
-    pub cell-taken : (r : Record) → c ≡ Cell.Event r → is_fetched None b.segment b.old b.new (stored (first + i) r) ≡ true
-        → items_left (first + i) (drop i cells) ≡ event_items (stored (first + i) r) ++ items_left (first + (i + 1)) (drop (i + 1) cells)
-    cell-taken r is e =
-        at-place ∙ ap (λ c. items_left (first + i) (c ∷ drop (i + 1) cells)) is ∙ event-by (first + i) r (drop (i + 1) cells) true e ∙ ap (λ xs. event_items (stored (first + i) r) ++ xs) one-on
-
-    pub cell-passed : (r : Record) → c ≡ Cell.Event r → is_fetched None b.segment b.old b.new (stored (first + i) r) ≡ false → items_left (first + i) (drop i cells) ≡ items_left (first + (i + 1)) (drop (i + 1) cells)
-    cell-passed r is e = at-place ∙ ap (λ c. items_left (first + i) (c ∷ drop (i + 1) cells)) is ∙ event-by (first + i) r (drop (i + 1) cells) false e ∙ one-on
-
-    pub cell-other : ((r : Record) → c ≡ Cell.Event r → ⊥) → items_left (first + i) (drop i cells) ≡ items_left (first + (i + 1)) (drop (i + 1) cells)
-    cell-other none = at-place ∙ other-by (first + i) c (drop (i + 1) cells) none ∙ one-on
+  pub items-more : (es new : List Stored) → items_of_events (es ++ new) ≡ items_of_events es ++ items_of_events new
+  items-more es new = ap (map (basis_item None b)) (flat_map-append (placed_items chain) es new) ∙ map-append (basis_item None b) (flat_map (placed_items chain) es) (flat_map (placed_items chain) new)
 
 -- ---- an item that comes to its share
 

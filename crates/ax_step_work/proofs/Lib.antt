@@ -14,7 +14,11 @@ pub mod KeptRows
 pub mod Gathered
 pub mod Tallied
 pub mod Fitted
+pub mod Opening
 pub mod Reached
+pub mod Walks
+pub mod FetchedWalk
+pub mod Halving
 pub mod Bounds
 pub mod Fetches
 pub mod Commits

@@ -1,8 +1,6 @@
 -- How far tokens reach, and the events of the cells between.
-use Rattle.std.proofs.Common.{◌≡◌, ℕ, zero, suc, min, ◌+◌, ◌-◌, ◌<◌, ◌≤◌, ◌==◌, ◌&&◌, ◌||◌, Bool, true, false, not, List, [], ◌∷◌, length, get_or, take, drop, filter, Option, length-drop, if◌then◌else◌, refl, sym, ap, ◌∙◌, subst, arith, nat_lt}
-use borrow.Author.Tests.{ltb-true, eqb-true, lt-ltb}
-use Rattle.std.specs.List.{list_all}
-use Rattle.ax_values.specs.Words.{rises}
+use Rattle.std.proofs.Common.{◌≡◌, ℕ, zero, suc, min, ◌+◌, ◌-◌, ◌<◌, ◌≤◌, ◌&&◌, Bool, true, false, not, List, [], ◌∷◌, length, take, drop, filter, Option, length-drop, if◌then◌else◌, refl, sym, ap, ◌∙◌, arith}
+use borrow.Author.Tests.{lt-ltb}
 use Rattle.ax_values.specs.declared.cell.Cell.{Cell}
 use Rattle.ax_values.specs.declared.record.Record.{Record}
 use Rattle.ax_log.specs.Log.{Stored, events_from, events}
@@ -11,31 +9,14 @@ use Rattle.ax_segments.specs.Sequences.{hash_in}
 use Rattle.ax_values.specs.Grammar.{Name}
 use Rattle.ax_tokens.specs.Plain.{Plain, contains, has, is_canonical_plain}
 use Rattle.ax_tokens.specs.Tokens.{Token, covers}
-use Rattle.ax_tokens.proofs.Sets.{above-first, gaps-below}
-use Rattle.ax_tokens.proofs.Gaps.{canonical-rises, canonical-below}
+use Rattle.ax_tokens.proofs.Sets.{gaps-below}
+use Rattle.ax_tokens.proofs.Gaps.{canonical-below}
 use Rattle.ax_state.specs.Batches.{is_fetched}
-use Rattle.ax_step_work.specs.Working.{is_new, new_below}
-use Rattle.ax_step_work.specs.Reach.{IsCoveredBelow, IsOpenFrom}
-use Rattle.ax_laws.proofs.Tests.{and-left, and-false}
+use Rattle.ax_step_work.specs.Working.{is_new}
+use Rattle.ax_step_work.specs.Reach.{IsCoveredBetween, IsOpenFrom}
+use Rattle.ax_laws.proofs.Tests.{and-false}
 
 -- ---- a plain part
-
-below-gap : (p : Plain) (g : ℕ) (gs : List ℕ) → is_canonical_plain p ≡ true → p.gaps ≡ g ∷ gs → (i : ℕ) → i < g → has p i ≡ true
-below-gap p g gs h e i lt =
-    ap (λ c. c && not (contains p.gaps i)) (lt-ltb i p.next (let a : suc g < p.next = room in omega arith))
-    ∙ ap (λ xs. not (contains xs i)) e ∙ ap not (lacks (g == i) refl (contains gs i) refl)
-  where
-    room : suc g < p.next
-    room = ltb-true (suc g) p.next (and-left _ _ (subst (λ xs. list_all (λ g. nat_lt (suc g) p.next) xs ≡ true) e (canonical-below p h)))
-
-    lacks : (b : Bool) → (g == i) ≡ b → (c : Bool) → contains gs i ≡ c → ((g == i) || contains gs i) ≡ false
-    lacks true k c l = absurd (let same : g ≡ i = eqb-true g i k in omega arith)
-    lacks false k true l = absurd (let over : g < i = above-first g gs (subst (λ xs. rises nat_lt xs ≡ true) e (canonical-rises p h)) i l in omega arith)
-    lacks false k false l = ap (λ b. b || contains gs i) k ∙ l
-
-pub below-first : (p : Plain) (gs : List ℕ) → is_canonical_plain p ≡ true → gs ≡ p.gaps → 1 ≤ length gs → (i : ℕ) → i < get_or gs 0 0 → has p i ≡ true
-below-first p [] h e some i lt = absurd (omega arith)
-below-first p (g ∷ gs) h e some i lt = below-gap p g gs h (sym e) i lt
 
 -- the number before `next` is in the set
 pub last-is : (p : Plain) (i : ℕ) → is_canonical_plain p ≡ true → p.next ≡ suc i → has p i ≡ true
@@ -92,27 +73,21 @@ nothing-after true true = refl
 nothing-after true false = refl
 nothing-after false n = refl
 
-new-covered : (whole : Option Name) (s : Segment) (t : Token) (n : ℕ) → IsCoveredBelow t n → (e : Stored) → e.index < n → is_new whole s t e ≡ false
-new-covered whole s t n h e lt = ap (λ c. matches s (hash_in whole e.record_of.aggregate) && not c) (h s.mask (hash_in whole e.record_of.aggregate) e.index lt) ∙ and-false (matches s (hash_in whole e.record_of.aggregate))
+pub new-covered : (whole : Option Name) (s : Segment) (t : Token) (a n : ℕ) → IsCoveredBetween t a n → (e : Stored) → a ≤ e.index → e.index < n → is_new whole s t e ≡ false
+new-covered whole s t a n h e le lt =
+    ap (λ c. matches s (hash_in whole e.record_of.aggregate) && not c) (h s.mask (hash_in whole e.record_of.aggregate) e.index le lt) ∙ and-false (matches s (hash_in whole e.record_of.aggregate))
 
-fetched-covered : (whole : Option Name) (s : Segment) (old new : Token) (n : ℕ) → IsCoveredBelow old n → (e : Stored) → e.index < n → is_fetched whole s old new e ≡ false
-fetched-covered whole s old new n h e lt =
-    ap (λ c. matches s (hash_in whole e.record_of.aggregate) && (covers new s.mask (hash_in whole e.record_of.aggregate) e.index && not c)) (h s.mask (hash_in whole e.record_of.aggregate) e.index lt)
+pub fetched-covered : (whole : Option Name) (s : Segment) (old new : Token) (a n : ℕ) → IsCoveredBetween old a n → (e : Stored) → a ≤ e.index → e.index < n → is_fetched whole s old new e ≡ false
+fetched-covered whole s old new a n h e le lt =
+    ap (λ c. matches s (hash_in whole e.record_of.aggregate) && (covers new s.mask (hash_in whole e.record_of.aggregate) e.index && not c)) (h s.mask (hash_in whole e.record_of.aggregate) e.index le lt)
     ∙ nothing-after (matches s (hash_in whole e.record_of.aggregate)) (covers new s.mask (hash_in whole e.record_of.aggregate) e.index)
 
-fetched-open : (whole : Option Name) (s : Segment) (old new : Token) (n : ℕ) → IsOpenFrom new n → (e : Stored) → n ≤ e.index → is_fetched whole s old new e ≡ false
+pub fetched-open : (whole : Option Name) (s : Segment) (old new : Token) (n : ℕ) → IsOpenFrom new n → (e : Stored) → n ≤ e.index → is_fetched whole s old new e ≡ false
 fetched-open whole s old new n h e le =
     ap (λ c. matches s (hash_in whole e.record_of.aggregate) && (c && not (covers old s.mask (hash_in whole e.record_of.aggregate) e.index))) (h s.mask (hash_in whole e.record_of.aggregate) e.index le)
     ∙ and-false (matches s (hash_in whole e.record_of.aggregate))
 
 -- what is fetched is fetched from the cells between
-pub fetched-between : (whole : Option Name) (s : Segment) (old new : Token) (least past low high : ℕ) (cells : List Cell) → IsCoveredBelow old least → IsOpenFrom new past → high ≡ min past (length cells) → low ≡ min least high
+pub fetched-between : (whole : Option Name) (s : Segment) (old new : Token) (least past low high : ℕ) (cells : List Cell) → IsCoveredBetween old 0 least → IsOpenFrom new past → high ≡ min past (length cells) → low ≡ min least high
     → filter (is_fetched whole s old new) (events_from low (take (high - low) (drop low cells))) ≡ filter (is_fetched whole s old new) (events cells)
-fetched-between whole s old new least past low high cells f g = between (is_fetched whole s old new) least past low high cells (fetched-covered whole s old new least f) (fetched-open whole s old new past g)
-
--- no new event stands before the first cell that can have one
-pub new-from : (whole : Option Name) (s : Segment) (t : Token) (least low b : ℕ) (cells : List Cell) → IsCoveredBelow t least → low ≤ least → new_below whole s t (events_from low (drop low cells)) b ≡ new_below whole s t (events cells) b
-new-from whole s t least low b cells h le =
-    let start : 0 + low ≡ low = omega arith in
-    ap (λ k. new_below whole s t (events_from k (drop low cells)) b) (sym start)
-    ∙ skip-front (λ e. is_new whole s t e && nat_lt e.index b) least low 0 cells (λ e lt. ap (λ c. c && nat_lt e.index b) (new-covered whole s t least h e lt)) (omega arith)
+fetched-between whole s old new least past low high cells f g = between (is_fetched whole s old new) least past low high cells (λ e lt. fetched-covered whole s old new 0 least f e (omega arith) lt) (fetched-open whole s old new past g)

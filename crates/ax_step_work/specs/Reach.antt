@@ -1,20 +1,24 @@
--- How far a token reaches: below which index it covers all, and from which on it covers none.
-use Rattle.std.specs.Prelude.{◌≡◌, ℕ, ◌<◌, ◌≤◌, Bool, true, false, ◌||◌, List, Option, filter}
+-- How far a token reaches: between which indexes it covers all, and from which on it covers none.
+use Rattle.std.specs.Prelude.{◌≡◌, ℕ, ◌<◌, ◌≤◌, Bool, true, false, ◌||◌, IsTrue, List, [], ◌∷◌, Option, filter, if◌then◌else◌}
 use Rattle.ax_values.specs.Grammar.{Name}
 use Rattle.ax_values.specs.declared.cell.Cell.{Cell}
-use Rattle.ax_log.specs.Log.{events_from, events}
+use Rattle.ax_log.specs.Log.{Stored, events_from, events, is_settled}
 use Rattle.ax_segments.specs.Segments.{Segment}
 use Rattle.ax_tokens.specs.Plain.{has}
 use Rattle.ax_tokens.specs.Tokens.{Token, plain, merged, replay, covers}
 use Rattle.ax_state.specs.Batches.{is_fetched}
 
--- each index below n is covered, for every hash
-abbrev pub IsCoveredBelow : Token → ℕ → Type 0
-IsCoveredBelow t n = (mask hash index : ℕ) → index < n → covers t mask hash index ≡ true
+-- each index that is at least a and below n is covered, for every hash
+abbrev pub IsCoveredBetween : Token → ℕ → ℕ → Type 0
+IsCoveredBetween t a n = (mask hash index : ℕ) → a ≤ index → index < n → covers t mask hash index ≡ true
 
 -- no index from n on is covered, for any hash
 abbrev pub IsOpenFrom : Token → ℕ → Type 0
 IsOpenFrom t n = (mask hash index : ℕ) → n ≤ index → covers t mask hash index ≡ false
+
+-- what it covers is not reserved in these cells
+abbrev pub HasSettled : Token → List Cell → Type 0
+HasSettled t cells = (mask hash index : ℕ) → covers t mask hash index ≡ true → IsTrue (is_settled cells index)
 
 -- whether some half has covered the index
 abbrev pub some_has : Token → ℕ → Bool
@@ -25,3 +29,15 @@ some_has (replay r c) i = has c i
 -- whether processors are whole or not, all events that are fetched from the old token to the new one stand in the part, whose first cell has the index `first`
 abbrev pub HasFetched : Token → Token → List Cell → ℕ → List Cell → Type 0
 HasFetched old new cells first part = (whole : Option Name) (s : Segment) → filter (is_fetched whole s old new) (events_from first part) ≡ filter (is_fetched whole s old new) (events cells)
+
+-- whether the cell, at its index, has an event that passes the test
+abbrev pub event_is : (Stored → Bool) → ℕ → Cell → Bool
+event_is test index (Cell.Event r) = test (record { index = index; record_of = r })
+event_is test index (Cell.Reserved aggregate sequence writer time) = false
+event_is test index Cell.Void = false
+
+-- the event of the cell, at its index, where it passes the test
+abbrev pub events_at : (Stored → Bool) → ℕ → Cell → List Stored
+events_at test index (Cell.Event r) = if test (record { index = index; record_of = r }) then record { index = index; record_of = r } ∷ [] else []
+events_at test index (Cell.Reserved aggregate sequence writer time) = []
+events_at test index Cell.Void = []

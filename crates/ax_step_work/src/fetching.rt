@@ -9,9 +9,10 @@ ghost use Rattle.ax_tokens.specs.Nodes.{token_of};
 ghost use Rattle.ax_step_work.specs.Working.{fetch_at, fetched, fetched_batch};
 ghost use Rattle.ax_step_work.specs.Sharing.{read_shares, taken};
 
-use crate::bound::{count_fetched, fetched_token};
+use crate::bound::fetched_token;
 use crate::gathering::fetched_items;
 use crate::sharing::shares_of;
+use crate::walk::count_fetched;
 use ax_basis::{Basis, Shares};
 use ax_claims::TokenRow;
 use ax_journal::Reply;

@@ -1,13 +1,14 @@
-ghost use Rattle.std.specs.Prelude.{◌≡◌, ◌≤◌, ◌++◌, length, map, IfOk, OnOk};
+ghost use Rattle.std.specs.Prelude.{◌≡◌, ◌≤◌, ◌++◌, flat_map, length, map, IfOk, OnOk};
 ghost use Rattle.ax_log.specs.Log.{events};
 ghost use Rattle.ax_log.specs.Order.{max_cells};
 ghost use Rattle.ax_tokens.specs.Nodes.{token_of};
 ghost use Rattle.ax_projections.specs.Items.{placed_items};
-ghost use Rattle.ax_state.specs.Batches.{basis_item, batch_items};
+ghost use Rattle.ax_state.specs.Batches.{basis_item, batch_items, is_fetched};
+ghost use Rattle.ax_step_work.specs.Reach.{events_at};
 ghost use Rattle.ax_step_work.specs.Sharing.{taken};
 
 use crate::bound::is_fetched;
-use crate::reach::fetchable;
+use crate::reach::{high_of, next_open};
 use ax_basis::BasisItem;
 use ax_segments::{Segment, hash_in};
 use ax_tokens::Token;
@@ -27,17 +28,36 @@ pub(crate) fn fetched_items(
     requires { length cells.now ≤ max_cells }
     ensures { IfOk result (λ items. items.items ≡ map (basis_item None (taken segment (token_of old.now) (token_of new.now))) (batch_items None chain.now (taken segment (token_of old.now) (token_of new.now)) (events cells.now))) }
 {
-    let (first, part) = fetchable(old, new, cells);
+    let end = high_of(new).min(cells.len() as u32);
     let mut items = Vec::new(alloc);
-    for (offset, cell) in part.iter().enumerate() {
-        let index = first + offset as u32;
-        if let Cell::Event(event) = cell {
-            if is_fetched(None, segment, old, new, index, event) {
-                push_items(alloc, chain, segment, old, index, event, &mut items)?;
-            }
-        }
+    let mut index = next_open(old, 0);
+    while index < end {
+        let cell = &cells[index as usize];
+        push_cell(alloc, chain, segment, old, new, index, cell, &mut items)?;
+        index = next_open(old, index + 1);
     }
     Ok(items)
+}
+
+/// Adds the items of the cell at an index, where its event is taken.
+fn push_cell(
+    alloc: Global,
+    chain: &Chain,
+    segment: Segment,
+    old: &Token,
+    new: &Token,
+    index: u32,
+    cell: &Cell,
+    items: &mut Vec<BasisItem>,
+) -> Result<(), NoMemory>
+    ensures { OnOk result (items.new.items ≡ items.old.items ++ map (basis_item None (taken segment (token_of old.now) (token_of old.now))) (flat_map (placed_items chain.now) (events_at (is_fetched None segment (token_of old.now) (token_of new.now)) index cell.now))) }
+{
+    if let Cell::Event(event) = cell {
+        if is_fetched(None, segment, old, new, index, event) {
+            return push_items(alloc, chain, segment, old, index, event, items);
+        }
+    }
+    Ok(())
 }
 
 /// Adds the items of an event at its index.

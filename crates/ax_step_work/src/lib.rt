@@ -10,6 +10,7 @@ mod reach;
 mod sharing;
 mod steps;
 mod tally;
+mod walk;
 
 pub use committing::commit_with;
 pub use steps::step;

@@ -2,34 +2,44 @@ ghost use Rattle.std.specs.Prelude.{◌≡◌, ℕ, suc, ◌+◌, ◌<◌, ◌�
 ghost use Rattle.ax_tokens.specs.Nodes.{token_of};
 ghost use Rattle.ax_tokens.specs.Plain.{has};
 ghost use Rattle.ax_tokens.specs.Tokens.{misses};
-ghost use Rattle.ax_step_work.specs.Reach.{IsCoveredBelow, IsOpenFrom, HasFetched, some_has};
+ghost use Rattle.ax_step_work.specs.Reach.{IsCoveredBetween, IsOpenFrom, HasFetched, some_has};
 
 use ax_tokens::{Plain, Token};
 use ax_values::Cell;
 
-/// The first index that a plain part lacks: its first gap, or its `next` where it has no gap.
-fn first_lacking(part: &Plain) -> u32
-    ensures below { (index : ℕ) → index < result → has part.now index ≡ true }
+/// The least index, at least `from`, that a plain part lacks: a gap, found by halves, or what lies past the last index.
+fn next_lacking(part: &Plain, from: u32) -> u32
+    ensures from { from ≤ result }
+    ensures between { (index : ℕ) → from ≤ index → index < result → has part.now index ≡ true }
     ensures lacking { has part.now result ≡ false }
 {
-    match part.gaps() {
-        [] => part.next(),
-        [first, ..] => *first,
+    if from >= part.next() {
+        return from;
+    }
+    match part.gaps().binary_search(&from) {
+        Ok(_) => from,
+        Err(place) => match part.gaps().get(place) {
+            Some(gap) => *gap,
+            None => part.next(),
+        },
     }
 }
 
-/// The first index that the token does not cover for some hash: each below it is covered for every hash.
-pub(crate) fn low_of(token: &Token) -> u32
-    ensures below { IsCoveredBelow (token_of token.now) result }
+/// The least index, at least `from`, that the token does not cover for some hash: each between is covered for every hash.
+pub(crate) fn next_open(token: &Token, from: u32) -> u32
+    ensures from { from ≤ result }
+    ensures between { IsCoveredBetween (token_of token.now) from result }
     ensures missed { IsTrue (misses (token_of token.now) result) }
 {
     match token {
-        Token::Plain(part) => first_lacking(part),
-        Token::Merged(lower, upper) => low_of(lower.get()).min(low_of(upper.get())),
+        Token::Plain(part) => next_lacking(part, from),
+        Token::Merged(lower, upper) => {
+            next_open(lower.get(), from).min(next_open(upper.get(), from))
+        }
         Token::Replay {
             at_reset: _,
             current,
-        } => first_lacking(current),
+        } => next_lacking(current, from),
     }
 }
 
@@ -55,6 +65,6 @@ pub(crate) fn fetchable<'a>(old: &Token, new: &Token, cells: &'a [Cell]) -> (u32
     ensures all { HasFetched (token_of old.now) (token_of new.now) cells.now result.0 result.1.now }
 {
     let high = (high_of(new) as usize).min(cells.len());
-    let low = (low_of(old) as usize).min(high);
+    let low = (next_open(old, 0) as usize).min(high);
     (low as u32, &cells[low..high])
 }

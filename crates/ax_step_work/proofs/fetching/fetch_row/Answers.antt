@@ -1,16 +1,27 @@
-use Rattle.std.proofs.Common.{◌++◌, ◌∷◌, [], length, filter, true, Some, None, refl, ◌∙◌, sym, ap, subst}
+use Rattle.std.proofs.Common.{IsTrue, ◌++◌, ◌∷◌, [], length, filter, true, Some, None, refl, ◌∙◌, sym, ap, subst}
 use Rattle.ax_log.specs.Log.{events}
 use Rattle.ax_tokens.specs.Nodes.{token_of}
+use Rattle.ax_tokens.specs.Tokens.{gaps_fit}
 use Rattle.ax_claims.specs.Rows.{TokenRow}
 use Rattle.ax_basis.specs.Basis.{Basis}
 use Rattle.ax_world.specs.Moves.{IsMove}
 use Rattle.ax_state.specs.Batches.{is_fetched}
+use Rattle.ax_step_work.specs.Reach.{HasSettled}
 use Rattle.ax_step_work.specs.Working.{fetched_token}
 use Rattle.ax_step_work.specs.Sharing.{read_shares, taken}
-use Rattle.ax_step_work.proofs.Fetches.{fetch-move, fetched-is}
+use Rattle.ax_step_work.proofs.Fetches.{fetch-fits, fetch-settled, fetch-move, fetched-is}
 use Rattle.ax_step_work.proofs.fetching.fetch_row.Goals as goal
 use Rattle.ax_world.specs.declared.edit.Edit.{Edit}
 use Rattle.ax_journal.specs.declared.reply.Reply.{Reply}
+
+pub fetched_token-requires-clause-fits : goal.fetched_token-requires-clause-fits
+fetched_token-requires-clause-fits c =
+    subst (λ (r : TokenRow). IsTrue (gaps_fit r.token)) (sym c.row.view_is) (fetch-fits c.args.world.now.tables c.args.actor c.args.processor c.args.most c.args.row.now c.log.ensures.world c.requires.found)
+
+pub fetched_token-requires-clause-settled : goal.fetched_token-requires-clause-settled
+fetched_token-requires-clause-settled c =
+    subst (λ (r : TokenRow). HasSettled r.token c.cells-cells.result.now) (sym c.row.view_is)
+    (subst (HasSettled c.args.row.now.token) (sym (c.cells-cells.ensures.value ∙ c.log.ensures.value)) (fetch-settled c.args.world.now.tables c.args.actor c.args.processor c.args.most c.args.row.now c.log.ensures.world c.requires.found))
 
 pub returns : goal.returns
 returns c =

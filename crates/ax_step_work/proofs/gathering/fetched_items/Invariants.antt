@@ -1,10 +1,16 @@
--- the items so far, and those of the cells that are left
-use Rattle.std.proofs.Common.{◌≡◌, ◌+◌, ◌++◌, drop}
+-- the items of the events below the index that are taken
+use Rattle.std.proofs.Common.{◌-◌, ◌≡◌, None}
+use Rattle.ax_log.specs.Log.{events}
 use Rattle.ax_tokens.specs.Nodes.{token_of}
+use Rattle.ax_state.specs.Batches.{is_fetched}
 use Rattle.ax_step_work.specs.Sharing.{taken}
-use Rattle.ax_step_work.proofs.Gathered.{items_left}
+use Rattle.ax_step_work.proofs.Gathered.{items_of_events}
+use Rattle.ax_step_work.proofs.Walks.{passed}
 use Rattle.ax_step_work.proofs.gathering.fetched_items.Given as goal
 
-abbrev pub invariant-loop-offset : goal.invariant-loop-offset
-invariant-loop-offset l =
-    l.items.items ++ items_left l.chain (taken l.segment (token_of l.old) (token_of l.new)) (l.first + l.offset) (drop l.offset l.part) ≡ items_left l.chain (taken l.segment (token_of l.old) (token_of l.new)) 0 l.cells
+abbrev pub invariant-loop-index : goal.invariant-loop-index
+invariant-loop-index l =
+    l.items.items ≡ items_of_events l.chain (taken l.segment (token_of l.old) (token_of l.new)) (passed (is_fetched None l.segment (token_of l.old) (token_of l.new)) (events l.cells) l.index)
+
+abbrev pub decreases-loop-index : goal.decreases-loop-index
+decreases-loop-index l = l.end - l.index
