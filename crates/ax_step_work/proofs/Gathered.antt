@@ -12,7 +12,7 @@ use Rattle.ax_projections.proofs.NameLaws.{name-refl}
 use Rattle.ax_basis.specs.Basis.{Share, is_of_member}
 use Rattle.ax_state.specs.State.{Batch}
 use Rattle.ax_state.specs.Batches.{is_fetched, fetched_events, basis_item, batch_items}
-use Rattle.ax_step_work.specs.Sharing.{single, single_shares, HasShare, LacksShare}
+use Rattle.ax_step_work.specs.Sharing.{event_items, single, single_shares, HasShare, LacksShare}
 use Rattle.ax_step_work.proofs.Singles.{single-got, found-next, lacks-next}
 use Rattle.ax_values.specs.declared.cell.Cell.{Cell}
 use Rattle.ax_values.specs.declared.record.Record.{Record}
@@ -27,21 +27,18 @@ on-ok-then (Err e) h f = tt
 -- ---- the items of one cell more
 
 module _ (chain : List Upcaster) (b : Batch) where
-  abbrev pub event_items : Stored → List BasisItem
-  event_items e = map (basis_item None b) (placed_items chain e)
-
   abbrev pub items_left : ℕ → List Cell → List BasisItem
   items_left k cells = map (basis_item None b) (batch_items None chain b (events_from k cells))
 
   abbrev stored : ℕ → Record → Stored
   stored k r = record { index = k; record_of = r }
 
-  event-by : (k : ℕ) (r : Record) (cells : List Cell) (c : Bool) → is_fetched None b.segment b.old b.new (stored k r) ≡ c → items_left k (Cell.Event r ∷ cells) ≡ (if c then event_items (stored k r) else []) ++ items_left (suc k) cells
+  event-by : (k : ℕ) (r : Record) (cells : List Cell) (c : Bool) → is_fetched None b.segment b.old b.new (stored k r) ≡ c → items_left k (Cell.Event r ∷ cells) ≡ (if c then event_items chain b (stored k r) else []) ++ items_left (suc k) cells
   event-by k r cells c e =
       ap (λ c. map (basis_item None b) (flat_map (placed_items chain) (if c then stored k r ∷ fetched_events None b (events_from (suc k) cells) else fetched_events None b (events_from (suc k) cells)))) e ∙ at c
     where
       at : (c : Bool) → map (basis_item None b) (flat_map (placed_items chain) (if c then stored k r ∷ fetched_events None b (events_from (suc k) cells) else fetched_events None b (events_from (suc k) cells)))
-          ≡ (if c then event_items (stored k r) else []) ++ items_left (suc k) cells
+          ≡ (if c then event_items chain b (stored k r) else []) ++ items_left (suc k) cells
       at true = map-append (basis_item None b) (placed_items chain (stored k r)) (batch_items None chain b (events_from (suc k) cells))
       at false = refl
 
@@ -58,9 +55,9 @@ module _ (chain : List Upcaster) (b : Batch) where
     one-on = let more : suc (first + i) ≡ first + (i + 1) = omega arith in ap (λ n. items_left n (drop (i + 1) cells)) more
 
     pub cell-taken : (r : Record) → c ≡ Cell.Event r → is_fetched None b.segment b.old b.new (stored (first + i) r) ≡ true
-        → items_left (first + i) (drop i cells) ≡ event_items (stored (first + i) r) ++ items_left (first + (i + 1)) (drop (i + 1) cells)
+        → items_left (first + i) (drop i cells) ≡ event_items chain b (stored (first + i) r) ++ items_left (first + (i + 1)) (drop (i + 1) cells)
     cell-taken r is e =
-        at-place ∙ ap (λ c. items_left (first + i) (c ∷ drop (i + 1) cells)) is ∙ event-by (first + i) r (drop (i + 1) cells) true e ∙ ap (λ xs. event_items (stored (first + i) r) ++ xs) one-on
+        at-place ∙ ap (λ c. items_left (first + i) (c ∷ drop (i + 1) cells)) is ∙ event-by (first + i) r (drop (i + 1) cells) true e ∙ ap (λ xs. event_items chain b (stored (first + i) r) ++ xs) one-on
 
     pub cell-passed : (r : Record) → c ≡ Cell.Event r → is_fetched None b.segment b.old b.new (stored (first + i) r) ≡ false → items_left (first + i) (drop i cells) ≡ items_left (first + (i + 1)) (drop (i + 1) cells)
     cell-passed r is e = at-place ∙ ap (λ c. items_left (first + i) (c ∷ drop (i + 1) cells)) is ∙ event-by (first + i) r (drop (i + 1) cells) false e ∙ one-on

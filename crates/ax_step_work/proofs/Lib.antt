@@ -8,6 +8,7 @@ pub mod SharePlaces
 pub mod Tables
 pub mod Outcomes
 pub mod Known
+pub mod Added
 pub mod CommitKept
 pub mod Standing
 pub mod KeptRows
@@ -17,5 +18,7 @@ pub mod Fitted
 pub mod Reached
 pub mod Bounds
 pub mod Fetches
+pub mod RowEdits
 pub mod Commits
+pub mod CommitAnswers
 pub mod NotWhole
