@@ -1,21 +1,18 @@
 -- A commit keeps what holds of every state.
-use Rattle.std.proofs.Common.{◌≡◌, ℕ, zero, suc, ◌<◌, ◌≤◌, ◌==◌, ◌&&◌, Bool, true, false, not, IsTrue, List, [], ◌∷◌, ◌++◌, filter, flat_map, length, Option, Some, None, Result, Ok, Err, slice_get, slice_set, if◌then◌else◌, refl, sym, ap, ◌∙◌, subst, arith}
+use Rattle.std.proofs.Common.{◌≡◌, ℕ, zero, suc, ◌<◌, ◌≤◌, ◌==◌, Bool, true, false, IsTrue, List, [], ◌∷◌, filter, length, Option, Some, None, Result, Ok, Err, slice_get, slice_set, if◌then◌else◌, refl, sym, ap, ◌∙◌, subst, arith}
 use Rattle.std.specs.Prelude.{IfSome, IsOk}
 use Rattle.std.specs.List.{AllByRecursion, list_any}
 use Rattle.std.proofs.lemmas.Bool.Decides.{nat_tests}
-use Rattle.std.proofs.lemmas.Grind.{flat_map-append}
 use Rattle.std.proofs.lemmas.List.{map-append}
 use Rattle.ax_values.specs.Grammar.{Name}
 use Rattle.ax_values.specs.Words.{same_name}
 use Rattle.ax_laws.proofs.Options.{some-is, none-some}
-use Rattle.ax_log.specs.Log.{Stored, events, stream_in}
+use Rattle.ax_log.specs.Log.{events}
 use Rattle.ax_rules.specs.Expr.{Row}
 use Rattle.ax_rules.specs.Rules.{Rules, and_then, fold_from, fold_items, start_row, row_or}
 use Rattle.ax_segments.specs.Segments.{Segment, matches}
 use Rattle.ax_segments.specs.Sequences.{hash_in}
-use Rattle.ax_segments.proofs.HashLaws.{hash_in-small}
-use Rattle.ax_tokens.specs.Tokens.{covers}
-use Rattle.ax_projections.specs.Items.{Placed, placed_items, plain_items}
+use Rattle.ax_projections.specs.Items.{Placed, plain_items}
 use Rattle.ax_claims.specs.Rows.{TokenRow, row_at, put_row}
 use Rattle.ax_claims.proofs.RowPlaces.{get-within}
 use Rattle.ax_sheet.specs.Declarations.{names_differ}
@@ -23,12 +20,11 @@ use Rattle.ax_state.specs.Every.{option_or}
 use Rattle.ax_state.specs.Setting.{name_at, projection_at, whole_at}
 use Rattle.ax_state.specs.State.{State, Desk, Batch, desk_at, processor_state_at, empty_desk, actor_name}
 use Rattle.ax_state.specs.Answer.{answer}
-use Rattle.ax_state.specs.Portions.{portions, covered_by, covered_events, items_in, row_by}
-use Rattle.ax_state.specs.WellFormed.{IsWellFormed, IsProcessorState, IsTokenOver, AreParts, CoverPrefix, TokenPrefix, IsStanding, IsBatchRow, IsBatchAt, IsBatchIn, OwnsRow, OwnsAs}
+use Rattle.ax_state.specs.Portions.{portions, covered_events, items_in, row_by}
+use Rattle.ax_state.specs.WellFormed.{IsWellFormed, IsProcessorState, IsTokenOver, TokenPrefix, IsStanding, IsBatchRow, IsBatchAt, IsBatchIn, OwnsRow, OwnsAs}
 use Rattle.ax_state.proofs.Lists.{All-get, AllFrom-get}
 use Rattle.ax_state.proofs.RowPuts.{found-row}
-use Rattle.ax_state.proofs.Coverage.{IsChanged, changed, covered-here, prefix-same}
-use Rattle.ax_state.proofs.Prefixes.{same-filter, covered-stream, same-row}
+use Rattle.ax_state.proofs.Prefixes.{same-row}
 use Rattle.ax_state.proofs.Actors.{same-actor}
 use Rattle.ax_state.proofs.Frames.{seat-at, batch-at, batch-owned, place-there, place-at, place-put, kept-held-row}
 use Rattle.ax_state.proofs.Desks.{kept-emptied}
@@ -36,8 +32,8 @@ use Rattle.ax_state.specs.Batches.{batch_items, shares_of, member_of, known_even
 use Rattle.ax_step_work.specs.Working.{Told, items_of_batch, shares_in, first_left, installed, committed, commit_over, commit_batch, commit, with_batch}
 use Rattle.ax_step_work.specs.Sharing.{member_at, item_names, is_item_of, single_shares}
 use Rattle.ax_step_work.proofs.Advancing.{advanced-keeps}
-use Rattle.ax_step_work.proofs.Folding.{share_of, row_behind, present_row, covered-split, row-now, fold-append}
-use Rattle.ax_step_work.proofs.Known.{share-stream, none-taken, none-placed, taken-matches, known-items, value_by, value-same}
+use Rattle.ax_step_work.proofs.Folding.{share_of, row_behind, present_row, row-now, fold-append}
+use Rattle.ax_step_work.proofs.Known.{none-placed, taken-matches, known-items, value_by, value-same}
 use Rattle.ax_step_work.proofs.Singles.{items, names-same, own-same, shares-single}
 use Rattle.ax_step_work.proofs.Outcomes.{fold-at, only_items}
 use Rattle.ax_step_work.proofs.NotWhole.{not-whole, not-both-kinds}
@@ -46,50 +42,7 @@ use Rattle.ax_basis.specs.declared.item.BasisItem.{BasisItem}
 use Rattle.ax_projections.specs.declared.table.Positioned.{Positioned}
 use Rattle.ax_journal.specs.declared.reply.Reply.{Reply}
 use Rattle.ax_upcast.specs.declared.upcaster.Upcaster.{Upcaster}
-
--- ---- the items that a commit adds
-
--- what a processor has covered of an aggregate after a batch: what it had, and the batch's share
-pub record IsAdded (whole : Option Name) (chain : List Upcaster) (es : List Stored) (rows later : List TokenRow) (b : Batch) : Type 0 where
-  pub mine : (a : Name) → matches b.segment (hash_in whole a) ≡ true → items_in chain (covered_events whole (portions later) es) a ≡ items_in chain (covered_events whole (portions rows) es) a ++ share_of a (batch_items whole chain b es)
-  pub others : (a : Name) → matches b.segment (hash_in whole a) ≡ false → items_in chain (covered_events whole (portions later) es) a ≡ items_in chain (covered_events whole (portions rows) es) a
-  pub none : (a : Name) → matches b.segment (hash_in whole a) ≡ false → share_of a (batch_items whole chain b es) ≡ []
-
-pub items-added : (whole : Option Name) (chain : List Upcaster) (es : List Stored) (rows : List TokenRow) (k : ℕ) (r n : TokenRow) (b : Batch) → AreParts (portions rows) → CoverPrefix whole es (portions rows) → slice_get rows k ≡ Some r
-    → r.segment ≡ b.segment → b.old ≡ r.token → n.segment ≡ r.segment → n.token ≡ b.new → ((mask h i : ℕ) → covers b.old mask h i ≡ true → covers b.new mask h i ≡ true) → IsAdded whole chain es rows (put_row n rows) b
-items-added whole chain es rows k r n b parts prefixes at seg old same new more = record {
-  mine = λ a m.
-      ap (flat_map (placed_items chain)) (covered-stream whole (portions (put_row n rows)) a es
-      ∙ tests-are a (λ i. covered_by (portions (put_row n rows)) (hash_in whole a) i) (λ i. covers b.new b.segment.mask (hash_in whole a) i) (λ i. later-here a m i)
-      ∙ covered-split (λ i. covers b.old b.segment.mask (hash_in whole a) i) (λ i. covers b.new b.segment.mask (hash_in whole a) i) (stream_in a es) (λ i. more b.segment.mask (hash_in whole a) i)
-      (prefix-same (λ i. covers b.old b.segment.mask (hash_in whole a) i) (λ i. covered_by (portions rows) (hash_in whole a) i) es a (λ i. sym (earlier-here a m i)) (prefixes a)))
-      ∙ flat_map-append (placed_items chain) (filter (λ e. covers b.old b.segment.mask (hash_in whole a) e.index) (stream_in a es)) (filter (λ e. covers b.new b.segment.mask (hash_in whole a) e.index && not (covers b.old b.segment.mask (hash_in whole a) e.index)) (stream_in a es))
-      ∙ ap (λ xs. xs ++ flat_map (placed_items chain) (filter (λ e. covers b.new b.segment.mask (hash_in whole a) e.index && not (covers b.old b.segment.mask (hash_in whole a) e.index)) (stream_in a es)))
-      (ap (flat_map (placed_items chain)) (sym (covered-stream whole (portions rows) a es ∙ tests-are a (λ i. covered_by (portions rows) (hash_in whole a) i) (λ i. covers b.old b.segment.mask (hash_in whole a) i) (λ i. earlier-here a m i))))
-      ∙ ap (λ ys. items_in chain (covered_events whole (portions rows) es) a ++ ys)
-      (sym (share-stream whole chain es b a ∙ ap (λ c. flat_map (placed_items chain) (filter (λ e. c && (covers b.new b.segment.mask (hash_in whole a) e.index && not (covers b.old b.segment.mask (hash_in whole a) e.index))) (stream_in a es))) m));
-  others = λ a m.
-      ap (flat_map (placed_items chain)) (covered-stream whole (portions (put_row n rows)) a es
-      ∙ tests-are a (λ i. covered_by (portions (put_row n rows)) (hash_in whole a) i) (λ i. covered_by (portions rows) (hash_in whole a) i) (λ i. put.other (hash_in whole a) i (ap (λ t. matches t (hash_in whole a)) (same ∙ seg) ∙ m))
-      ∙ sym (covered-stream whole (portions rows) a es));
-  none = λ a m. none-taken whole chain es b a m;
-}
-  where
-    put : IsChanged rows (put_row n rows) n
-    put = changed rows k r n parts at same
-
-    tests-are : (a : Name) (f g : ℕ → Bool) → ((i : ℕ) → f i ≡ g i) → filter (λ e. f e.index) (stream_in a es) ≡ filter (λ e. g e.index) (stream_in a es)
-    tests-are a f g h = same-filter (λ (e : Stored). f e.index) (λ e. g e.index) (stream_in a es) (λ e. h e.index)
-
-    later-here : (a : Name) → matches b.segment (hash_in whole a) ≡ true → (i : ℕ) → covered_by (portions (put_row n rows)) (hash_in whole a) i ≡ covers b.new b.segment.mask (hash_in whole a) i
-    later-here a m i =
-        put.here (hash_in whole a) i (hash_in-small whole a) (ap (λ t. matches t (hash_in whole a)) (same ∙ seg) ∙ m)
-        ∙ ap (λ t. covers t n.segment.mask (hash_in whole a) i) new ∙ ap (λ (t : Segment). covers b.new t.mask (hash_in whole a) i) (same ∙ seg)
-
-    earlier-here : (a : Name) → matches b.segment (hash_in whole a) ≡ true → (i : ℕ) → covered_by (portions rows) (hash_in whole a) i ≡ covers b.old b.segment.mask (hash_in whole a) i
-    earlier-here a m i =
-        covered-here rows k r (hash_in whole a) i parts at (hash_in-small whole a) (ap (λ t. matches t (hash_in whole a)) seg ∙ m)
-        ∙ ap (λ t. covers t r.segment.mask (hash_in whole a) i) (sym old) ∙ ap (λ (t : Segment). covers b.old t.mask (hash_in whole a) i) seg
+use Rattle.ax_step_work.proofs.Added.{IsAdded, items-added}
 
 ok-is : (o : Result Row Cause) (made : Row) → o ≡ Ok made → IsOk o
 ok-is o made e = subst IsOk (sym e) refl

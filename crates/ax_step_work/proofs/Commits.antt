@@ -1,5 +1,5 @@
 -- The moves of a commit: what it refuses changes no row, and what it installs leads to the state of the definition.
-use Rattle.std.proofs.Common.{◌≡◌, ℕ, zero, suc, ◌+◌, ◌<◌, ◌≤◌, ◌==◌, Bool, true, false, List, [], ◌∷◌, ◌++◌, length, map, Option, Some, None, Result, Ok, Err, slice_get, slice_set, if◌then◌else◌, nat_lt, refl, sym, ap, ◌∙◌, subst, arith}
+use Rattle.std.proofs.Common.{◌≡◌, ℕ, ◌+◌, ◌<◌, ◌≤◌, ◌==◌, Bool, true, false, List, [], ◌∷◌, length, map, Option, Some, None, Result, Ok, slice_set, if◌then◌else◌, nat_lt, refl, sym, ap, ◌∙◌, subst, arith}
 use Rattle.std.specs.Prelude.{IsTrue, IfSome, filter}
 use Rattle.ax_laws.proofs.Lists.{length-filter}
 use Rattle.ax_sheet.specs.Declarations.{names_differ}
@@ -14,11 +14,11 @@ use Rattle.ax_rules.specs.Rules.{Rules, start_row, row_or}
 use Rattle.ax_segments.specs.Segments.{matches}
 use Rattle.ax_segments.specs.Sequences.{hash_in}
 use Rattle.ax_upcast.specs.Upcast.{KeepsLimit}
-use Rattle.ax_projections.specs.Table.{Entry, look_up, put_entry}
+use Rattle.ax_projections.specs.Table.{Entry, look_up}
 use Rattle.ax_projections.specs.Items.{Placed}
 use Rattle.ax_projections.specs.Rebuild.{or_start}
 use Rattle.ax_claims.specs.Rows.{TokenRow, row_at, put_row}
-use Rattle.ax_state.specs.Every.{AllFrom, count, option_or}
+use Rattle.ax_state.specs.Every.{AllFrom, count}
 use Rattle.ax_state.specs.Setting.{is_projection, projection_at, whole_at}
 use Rattle.ax_state.specs.State.{State, ProcessorState, Desk, Batch, processor_state_at, desk_at, with_desk}
 use Rattle.ax_state.specs.Answer.{Answer, answer}
@@ -27,87 +27,34 @@ use Rattle.ax_state.specs.WellFormed.{IsBatchIn}
 use Rattle.ax_state.proofs.Lists.{AllFrom-set}
 use Rattle.ax_state.proofs.Frames.{batch-at}
 use Rattle.ax_state.proofs.Desks.{kept-emptied}
-use Rattle.ax_world.specs.WorldTables.{WorldTables, DeskTables, desk_of, ProcessorTables, no_tables, state_of, processor_tables_at, rows_at}
-use Rattle.ax_world.specs.EditsApplied.{edit_applied, edits_applied, with_state}
+use Rattle.ax_world.specs.WorldTables.{WorldTables, DeskTables, desk_of, ProcessorTables, no_tables, state_of, processor_tables_at}
+use Rattle.ax_world.specs.EditsApplied.{edits_applied, with_state}
 use Rattle.ax_world.specs.Fits.{IsWorld, IsTable, CanMakeAll, is_cells, folded_row}
 use Rattle.ax_world.specs.Moves.{IsMove}
-use Rattle.ax_world.proofs.OneProcessorChanges.{map_set, set_same}
+use Rattle.ax_world.proofs.OneProcessorChanges.{map_set}
 use Rattle.ax_world.proofs.StepMoves.{unmoved, moved, bases-emptied}
 use Rattle.ax_world.proofs.ProcessorStates.{processor_state-place}
 use Rattle.ax_step_work.specs.Working.{Told, first_left, left_text, shares_in, items_of_batch, installed, committed, commit_over, with_batch}
 use Rattle.ax_step_work.specs.Sharing.{member_read, is_item_of, item_names, single_of, single_shares}
-use Rattle.ax_step_work.specs.Installing.{IsCleared, IsSingle, share_items, entries_after, row_edits, stored_or, stored, install_edits, install_move}
+use Rattle.ax_step_work.specs.Installing.{IsCleared, IsSingle, share_items, entries_after, row_edits, install_edits}
 use Rattle.ax_basis.specs.Basis.{Basis}
 use Rattle.ax_basis.specs.declared.item.BasisItem.{BasisItem}
 use Rattle.ax_state.specs.Batches.{IsBasisOf, batch_of, batch_items, rising_names}
-use Rattle.ax_step_work.proofs.CommitKept.{kept-installed, all-apply, added, row-after, present-is, standing, IsAdded}
+use Rattle.ax_step_work.proofs.CommitKept.{kept-installed, all-apply, added, row-after, present-is, standing}
 use Rattle.ax_step_work.proofs.NotWhole.{not-whole}
 use Rattle.ax_step_work.proofs.Folding.{share_of, present_row}
 use Rattle.ax_step_work.proofs.KeptRows.{within, same-state, n, row_now, kept-is, started, rows-bound, shares-read}
 use Rattle.ax_step_work.proofs.Outcomes.{total-items}
 use Rattle.ax_step_work.proofs.Singles.{items}
 use Rattle.ax_step_work.proofs.Standing.{Stands, stands}
-use Rattle.ax_step_work.proofs.Tables.{first_of, present, length-put, covered-few, batch-few, put_entries, look-puts}
+use Rattle.ax_step_work.proofs.Tables.{first_of, present, covered-few, batch-few, put_entries, look-puts}
 use Rattle.ax_rules.specs.declared.cause.Cause.{Cause}
 use Rattle.ax_journal.specs.declared.reply.Reply.{Reply}
 use Rattle.ax_projections.specs.declared.table.Positioned.{Positioned}
 use Rattle.ax_upcast.specs.declared.upcaster.Upcaster.{Upcaster}
 use Rattle.ax_world.specs.declared.edit.Edit.{Edit}
-use Rattle.ax_world.specs.declared.edit.Move.{Move}
-
--- ---- edits
-
-set-here : {A : Type 0} (d : A) (xs : List A) (p : ℕ) (y : A) → p < length xs → option_or d (slice_get (slice_set xs p y) p) ≡ y
-set-here d [] p y lt = absurd (omega arith)
-set-here d (x ∷ xs) zero y lt = refl
-set-here d (x ∷ xs) (suc p) y lt = set-here d xs p y (omega arith)
-
-set-twice : {A : Type 0} (xs : List A) (p : ℕ) (x y : A) → slice_set (slice_set xs p x) p y ≡ slice_set xs p y
-set-twice [] p x y = refl
-set-twice (z ∷ xs) zero x y = refl
-set-twice (z ∷ xs) (suc p) x y = ap (λ ys. z ∷ ys) (set-twice xs p x y)
-
-made-append : (es fs : List Edit) (w : WorldTables) → edits_applied (es ++ fs) w ≡ edits_applied fs (edits_applied es w)
-made-append [] fs w = refl
-made-append (e ∷ es) fs w = made-append es fs (edit_applied w e)
-
-can-append : (es fs : List Edit) (w : WorldTables) → CanMakeAll w es → CanMakeAll (edits_applied es w) fs → CanMakeAll w (es ++ fs)
-can-append [] fs w h j = j
-can-append (e ∷ es) fs w h j = (h.0, can-append es fs (edit_applied w e) h.1 j)
-
-count-rows : (p : ℕ) (es : List Entry) (fs : List Edit) → count is_cells (row_edits p es ++ fs) ≡ count is_cells fs
-count-rows p [] fs = refl
-count-rows p (e ∷ es) fs = let k : count is_cells (row_edits p es ++ fs) ≡ count is_cells fs = count-rows p es fs in omega (arith, k)
-
-abbrev with_processor_tables : ℕ → ProcessorTables → WorldTables → WorldTables
-with_processor_tables p x w = record w { processor_tables = slice_set w.processor_tables p x }
-
-abbrev with_table : List Entry → ProcessorTables → ProcessorTables
-with_table t x = record x { table = t }
-
-made-rows : (es : List Entry) (p : ℕ) (w : WorldTables) → p < length w.processor_tables → edits_applied (row_edits p es) w ≡ with_processor_tables p (with_table (put_entries es (processor_tables_at w p).table) (processor_tables_at w p)) w
-made-rows [] p w lt = sym (ap (λ ps. record w { processor_tables = ps }) (set_same no_tables w.processor_tables p))
-made-rows (e ∷ es) p w lt =
-    made-rows es p (with_processor_tables p x w) (let l : length (slice_set w.processor_tables p x) ≡ length w.processor_tables = length-set w.processor_tables p x in omega (arith, l, lt))
-    ∙ ap (λ (y : ProcessorTables). with_processor_tables p (with_table (put_entries es y.table) y) (with_processor_tables p x w)) (set-here no_tables w.processor_tables p x lt)
-    ∙ ap (λ ps. record w { processor_tables = ps }) (set-twice w.processor_tables p x (with_table (put_entries es x.table) x))
-  where
-    x : ProcessorTables
-    x = with_table (put_entry e.name e.value (processor_tables_at w p).table) (processor_tables_at w p)
-
-can-rows : (es : List Entry) (p : ℕ) (w : WorldTables) → p < length w.processor_tables → length (processor_tables_at w p).table + length es ≤ 4000000000 → CanMakeAll w (row_edits p es)
-can-rows [] p w lt few = tt
-can-rows (e ∷ es) p w lt few = (
-  (lt, λ none. omega (arith, few)),
-  can-rows es p (with_processor_tables p x w) (let l : length (slice_set w.processor_tables p x) ≡ length w.processor_tables = length-set w.processor_tables p x in omega (arith, l, lt))
-      (let same : length (processor_tables_at (with_processor_tables p x w) p).table ≡ length (put_entry e.name e.value (processor_tables_at w p).table) = ap (λ (y : ProcessorTables). length y.table) (set-here no_tables w.processor_tables p x lt) in
-      let l : length (put_entry e.name e.value (processor_tables_at w p).table) ≤ suc (length (processor_tables_at w p).table) = length-put e.name e.value (processor_tables_at w p).table in omega (arith, same, l, few)),
-)
-  where
-    x : ProcessorTables
-    x = with_table (put_entry e.name e.value (processor_tables_at w p).table) (processor_tables_at w p)
-
--- ---- a batch on a desk of a world
+use Rattle.ax_step_work.proofs.Added.{IsAdded}
+use Rattle.ax_step_work.proofs.RowEdits.{with_table, set-here, set-twice, made-append, can-append, count-rows, made-rows, can-rows}
 
 module _ (w : WorldTables) (actor : ℕ) (basis : Basis) (h : IsWorld w) (mine : (desk_at (state_of w) actor).batch ≡ Some (batch_of basis)) where
   abbrev m : State
@@ -341,64 +288,3 @@ module _ (w : WorldTables) (actor : ℕ) (basis : Basis) (h : IsWorld w) (mine :
           (ap (λ (u : WorldTables). u.setting) made-is) (subst (λ (u : WorldTables). AllFrom (IsTable w.setting (events u.cells)) 0 u.processor_tables) (sym made-is) tables-then)
           (subst (λ (u : WorldTables). AllByRecursion (λ o. IfSome o (IsBasisOf w.setting u.cells)) u.bases) (sym made-is) (bases-cleared desk cleared))
           (ap (λ k. Reply.Committed k 0 0) count-is) refl)
-
--- ---- what the calls answered
-
-pub record IsStored (now : ℕ) (b : Batch) (old : List TokenRow) (o : Option TokenRow) (new : List TokenRow) : Type 0 where
-  pub row : TokenRow
-  pub found : o ≡ Some row
-  pub fence : row.fence ≡ b.fence
-  pub rows_are : new ≡ put_row (record row { token = b.new; since = now }) old
-
-stored-rows : (now : ℕ) (b : Batch) (old : List TokenRow) (o : Option TokenRow) (new : List TokenRow) → Ok new ≡ stored_or now b old o → IsStored now b old o new
-stored-rows now b old None new e = absurd (cc)
-stored-rows now b old (Some r) new e = by (r.fence == b.fence) refl e
-  where
-    by : (c : Bool) → (r.fence == b.fence) ≡ c → Ok new ≡ (if c then Ok (put_row (record r { token = b.new; since = now }) old) else Err (Reply.Stale b.fence (Some r.fence))) → IsStored now b old (Some r) new
-    by true k e = record { row = r; found = refl; fence = (grind (arith, nat_tests, k)); rows_are = (cc) }
-    by false k e = absurd (cc)
-
-stale-over : (m : State) (actor now : ℕ) (b : Batch) (old : List TokenRow) (o : Option TokenRow) (reply : Reply) → Err reply ≡ stored_or now b old o → commit_over m actor b o ≡ answer (with_batch actor None m) reply
-stale-over m actor now b old None reply e = let is : reply ≡ Reply.Stale b.fence None = cc in ap (answer (with_batch actor None m)) (sym is)
-stale-over m actor now b old (Some r) reply e = by (r.fence == b.fence) refl e
-  where
-    by : (c : Bool) → (r.fence == b.fence) ≡ c → Err reply ≡ (if c then Ok (put_row (record r { token = b.new; since = now }) old) else Err (Reply.Stale b.fence (Some r.fence))) → commit_over m actor b (Some r) ≡ answer (with_batch actor None m) reply
-    by true k e = absurd (cc)
-    by false k e =
-        let is : reply ≡ Reply.Stale b.fence (Some r.fence) = cc in
-        ap (λ c. if c then committed m actor b r (first_left (projection_at m.setting b.processor) true (shares_in m b)) else answer (with_batch actor None m) (Reply.Stale b.fence (Some r.fence))) k
-        ∙ ap (answer (with_batch actor None m)) (sym is)
-
-module _ (w : WorldTables) (actor : ℕ) (basis : Basis) (h : IsWorld w) (mine : (desk_at (state_of w) actor).batch ≡ Some (batch_of basis)) where
-  abbrev over : Answer
-  over = commit_over (state_of w) actor (batch_of basis) (row_at basis.segment (processor_state_at (state_of w) basis.processor).rows)
-
-  pub stale-answer : (now : ℕ) (old : List TokenRow) (reply : Reply) (desk : DeskTables) (mv : Move) → actor < length w.desks → IsCleared w actor desk → old ≡ rows_at w basis.processor → Err reply ≡ stored now (batch_of basis) old
-      → mv ≡ record { edits = Edit.SetDesk actor desk ∷ []; reply = reply; report = [] } → IsMove w over mv
-  stale-answer now old reply desk mv lt cleared rows e is =
-      subst (IsMove w over) (sym is)
-      (emptied-move w actor basis h mine over reply desk lt cleared
-      (ap (λ (s : ProcessorState). commit_over (state_of w) actor (batch_of basis) (row_at basis.segment s.rows)) (processor_state-place w basis.processor) ∙ ap (λ rs. commit_over (state_of w) actor (batch_of basis) (row_at basis.segment rs)) (sym rows)
-      ∙ stale-over (state_of w) actor now (batch_of basis) old (row_at basis.segment old) reply e))
-
-  module _ (tied : IsBasisOf w.setting w.cells basis) (rs : Rules) (rules_are : rs ≡ projection_at w.setting basis.processor) (rows : List TokenRow) (kept : Ok rows ≡ stored w.clock (batch_of basis) (rows_at w basis.processor)) where
-    was-stored : IsStored w.clock (batch_of basis) (processor_tables_at w basis.processor).processor_state.rows (row_at basis.segment (processor_tables_at w basis.processor).processor_state.rows) rows
-    was-stored = stored-rows w.clock (batch_of basis) (processor_tables_at w basis.processor).processor_state.rows (row_at basis.segment (processor_tables_at w basis.processor).processor_state.rows) rows kept
-
-    pub failed-answer : (t : Told) (mv : Move) → Some t ≡ first_left rs basis.keep basis.shares → mv ≡ record { edits = []; reply = Reply.NotApplied t.item.item.name (left_text t.outcome); report = [] } → IsMove w over mv
-    failed-answer t mv e is =
-        subst (IsMove w over) (sym is) (failed-move w actor basis h mine tied was-stored.row was-stored.found was-stored.fence t (ap (λ rs. first_left rs basis.keep basis.shares) (sym rules_are) ∙ sym e))
-
-    pub single-answer : KeepsLimit w.setting.sheet.chain → AllByRecursion IsSingle basis.shares
-    single-answer few = all-single w actor basis h mine tied was-stored.row was-stored.found was-stored.fence few h.state.log.size
-
-    pub count-answer : KeepsLimit w.setting.sheet.chain → length (share_items basis.shares) ≤ 1600000
-    count-answer few = count-few w actor basis h mine tied was-stored.row was-stored.found was-stored.fence few h.state.log.size
-
-    pub installed-answer : (desk : DeskTables) (mv : Move) → None ≡ first_left rs basis.keep basis.shares → IsCleared w actor desk → KeepsLimit w.setting.sheet.chain → IsDistinct same_name (map (λ e. e.name) (processor_tables_at w basis.processor).table)
-        → actor < length w.desks → mv ≡ install_move rs basis rows actor desk → IsMove w over mv
-    installed-answer desk mv e cleared few distinct lt is =
-        subst (IsMove w over) (sym is)
-        (subst (λ (q : Rules). IsMove w over (install_move q basis rows actor desk)) (sym rules_are)
-        (subst (λ (ts : List TokenRow). IsMove w over (install_move (projection_at w.setting basis.processor) basis ts actor desk)) (sym was-stored.rows_are)
-        (installed-move w actor basis h mine tied was-stored.row was-stored.found was-stored.fence (ap (λ rs. first_left rs basis.keep basis.shares) (sym rules_are) ∙ sym e) desk cleared lt distinct h.state.log.size few)))

@@ -13,7 +13,7 @@ use Rattle.ax_projections.proofs.NameLaws.{name-refl}
 use Rattle.ax_basis.specs.Basis.{Share, is_of_member}
 use Rattle.ax_state.specs.State.{Batch}
 use Rattle.ax_state.specs.Batches.{is_fetched, fetched_events, basis_item, batch_items}
-use Rattle.ax_step_work.specs.Sharing.{single, single_shares, HasShare, LacksShare}
+use Rattle.ax_step_work.specs.Sharing.{event_items, single, single_shares, HasShare, LacksShare}
 use Rattle.ax_step_work.proofs.Singles.{single-got, found-next, lacks-next}
 use Rattle.ax_values.specs.declared.cell.Cell.{Cell}
 use Rattle.ax_values.specs.declared.record.Record.{Record}

@@ -8,6 +8,7 @@ pub mod SharePlaces
 pub mod Tables
 pub mod Outcomes
 pub mod Known
+pub mod Added
 pub mod CommitKept
 pub mod Standing
 pub mod KeptRows
@@ -21,5 +22,7 @@ pub mod FetchedWalk
 pub mod Halving
 pub mod Bounds
 pub mod Fetches
+pub mod RowEdits
 pub mod Commits
+pub mod CommitAnswers
 pub mod NotWhole

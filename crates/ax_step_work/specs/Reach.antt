@@ -26,10 +26,6 @@ some_has (plain p) i = has p i
 some_has (merged l u) i = some_has l i || some_has u i
 some_has (replay r c) i = has c i
 
--- whether processors are whole or not, all events that are fetched from the old token to the new one stand in the part, whose first cell has the index `first`
-abbrev pub HasFetched : Token → Token → List Cell → ℕ → List Cell → Type 0
-HasFetched old new cells first part = (whole : Option Name) (s : Segment) → filter (is_fetched whole s old new) (events_from first part) ≡ filter (is_fetched whole s old new) (events cells)
-
 -- whether the cell, at its index, has an event that passes the test
 abbrev pub event_is : (Stored → Bool) → ℕ → Cell → Bool
 event_is test index (Cell.Event r) = test (record { index = index; record_of = r })

@@ -16,7 +16,10 @@ use Rattle.ax_state.specs.State.{Batch}
 use Rattle.ax_state.specs.Setting.{projection_at}
 use Rattle.ax_state.specs.Batches.{basis_item, batch_items, rising_names}
 use Rattle.ax_world.specs.WorldTables.{WorldTables, processor_tables_at}
-use Rattle.ax_log.specs.Log.{events}
+use Rattle.ax_log.specs.Log.{Stored, events}
+use Rattle.ax_projections.specs.Items.{placed_items}
+use Rattle.ax_upcast.specs.declared.upcaster.Upcaster.{Upcaster}
+use Rattle.ax_values.specs.declared.cell.Cell.{Cell}
 use Rattle.ax_basis.specs.declared.item.BasisItem.{BasisItem}
 use Rattle.ax_basis.specs.declared.item.Member.{Member}
 
@@ -48,9 +51,21 @@ single_of member xs a = single member a (filter (is_item_of a) xs)
 abbrev pub single_shares : (Name → Member) → List BasisItem → List Share
 single_shares member xs = map (single_of member xs) (rising_names (item_names xs))
 
--- what a batch takes, with the rows that a world keeps of its processor
+-- the same, with the rows that are kept
+abbrev pub shares_read : Rules → List Entry → List BasisItem → List Share
+shares_read rules kept xs = single_shares (member_read rules kept) xs
+
+-- ---- what a batch takes
+
+abbrev pub event_items : List Upcaster → Batch → Stored → List BasisItem
+event_items chain b e = map (basis_item None b) (placed_items chain e)
+
+abbrev pub items_taken : List Upcaster → Batch → List Cell → List BasisItem
+items_taken chain b cells = map (basis_item None b) (batch_items None chain b (events cells))
+
+-- with the rows that a world keeps of its processor
 abbrev pub read_shares : WorldTables → ℕ → Batch → List Share
-read_shares w p b = single_shares (member_read (projection_at w.setting p) (processor_tables_at w p).table) (map (basis_item None b) (batch_items None w.setting.sheet.chain b (events w.cells)))
+read_shares w p b = shares_read (projection_at w.setting p) (processor_tables_at w p).table (items_taken w.setting.sheet.chain b w.cells)
 
 -- ---- places
 

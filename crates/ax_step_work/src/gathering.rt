@@ -1,11 +1,10 @@
 ghost use Rattle.std.specs.Prelude.{◌≡◌, ◌≤◌, ◌++◌, flat_map, length, map, IfOk, OnOk};
-ghost use Rattle.ax_log.specs.Log.{events};
 ghost use Rattle.ax_log.specs.Order.{max_cells};
 ghost use Rattle.ax_tokens.specs.Nodes.{token_of};
 ghost use Rattle.ax_projections.specs.Items.{placed_items};
-ghost use Rattle.ax_state.specs.Batches.{basis_item, batch_items, is_fetched};
+ghost use Rattle.ax_state.specs.Batches.{basis_item, is_fetched};
 ghost use Rattle.ax_step_work.specs.Reach.{events_at};
-ghost use Rattle.ax_step_work.specs.Sharing.{taken};
+ghost use Rattle.ax_step_work.specs.Sharing.{event_items, items_taken, taken};
 
 use crate::bound::is_fetched;
 use crate::reach::{high_of, next_open};
@@ -26,7 +25,7 @@ pub(crate) fn fetched_items(
     cells: &[Cell],
 ) -> Result<Vec<BasisItem>, NoMemory>
     requires { length cells.now ≤ max_cells }
-    ensures { IfOk result (λ items. items.items ≡ map (basis_item None (taken segment (token_of old.now) (token_of new.now))) (batch_items None chain.now (taken segment (token_of old.now) (token_of new.now)) (events cells.now))) }
+    ensures { IfOk result (λ items. items.items ≡ items_taken chain.now (taken segment (token_of old.now) (token_of new.now)) cells.now) }
 {
     let end = high_of(new).min(cells.len() as u32);
     let mut items = Vec::new(alloc);
@@ -70,7 +69,7 @@ fn push_items(
     event: &Record,
     items: &mut Vec<BasisItem>,
 ) -> Result<(), NoMemory>
-    ensures { OnOk result (items.new.items ≡ items.old.items ++ map (basis_item None (taken segment (token_of old.now) (token_of old.now))) (placed_items chain.now (record { index = index; record_of = event.now }))) }
+    ensures { OnOk result (items.new.items ≡ items.old.items ++ event_items chain.now (taken segment (token_of old.now) (token_of old.now)) (record { index = index; record_of = event.now })) }
 {
     let made = chain.upcast(alloc, event)?;
     for item in made.into_parts() {

@@ -2,10 +2,9 @@ ghost use Rattle.std.specs.Prelude.{◌≡◌, ℕ, suc, ◌+◌, ◌<◌, ◌�
 ghost use Rattle.ax_tokens.specs.Nodes.{token_of};
 ghost use Rattle.ax_tokens.specs.Plain.{has};
 ghost use Rattle.ax_tokens.specs.Tokens.{misses};
-ghost use Rattle.ax_step_work.specs.Reach.{IsCoveredBetween, IsOpenFrom, HasFetched, some_has};
+ghost use Rattle.ax_step_work.specs.Reach.{IsCoveredBetween, IsOpenFrom, some_has};
 
 use ax_tokens::{Plain, Token};
-use ax_values::Cell;
 
 /// The least index, at least `from`, that a plain part lacks: a gap, found by halves, or what lies past the last index.
 fn next_lacking(part: &Plain, from: u32) -> u32
@@ -56,15 +55,4 @@ pub(crate) fn high_of(token: &Token) -> u32
             current,
         } => current.next(),
     }
-}
-
-/// The cells among which all those events are that the new token covers and the old one does not, and the index of the
-/// first of these cells.
-pub(crate) fn fetchable<'a>(old: &Token, new: &Token, cells: &'a [Cell]) -> (u32, &'a [Cell])
-    ensures within { result.0 + length result.1.now ≤ length cells.now }
-    ensures all { HasFetched (token_of old.now) (token_of new.now) cells.now result.0 result.1.now }
-{
-    let high = (high_of(new) as usize).min(cells.len());
-    let low = (next_open(old, 0) as usize).min(high);
-    (low as u32, &cells[low..high])
 }

@@ -2,7 +2,7 @@ ghost use Rattle.std.specs.Prelude.{◌≡◌, ◌<◌, ◌++◌, ◌∷◌, [],
 ghost use Rattle.ax_values.specs.Words.{rises};
 ghost use Rattle.ax_basis.specs.Basis.{is_of_member};
 ghost use Rattle.ax_basis.specs.declared.item.BasisItem.{BasisItem};
-ghost use Rattle.ax_step_work.specs.Sharing.{IsPlaceOf, member_read, share_below, single, single_shares};
+ghost use Rattle.ax_step_work.specs.Sharing.{IsPlaceOf, member_read, share_below, shares_read, single};
 
 use ax_basis::{BasisItem, BasisItems, Member, Members, Share, Shares};
 use ax_projections::Table;
@@ -17,7 +17,7 @@ pub(crate) fn shares_of(
     kept: &Table,
     items: Vec<BasisItem>,
 ) -> Result<Shares, NoMemory>
-    ensures { IfOk result (λ shares. shares ≡ single_shares (member_read rules.now kept.now.entries) items.items) }
+    ensures { IfOk result (λ shares. shares ≡ shares_read rules.now kept.now.entries items.items) }
 {
     let mut shares = Vec::new(alloc);
     for item in items {
@@ -34,8 +34,8 @@ fn add_item(
     shares: &mut Vec<Share>,
     item: BasisItem,
 ) -> Result<(), NoMemory>
-    requires { (done : List BasisItem) × (shares.old.items ≡ single_shares (member_read rules.now kept.now.entries) done) }
-    ensures { OnOk result ((done : List BasisItem) → shares.old.items ≡ single_shares (member_read rules.now kept.now.entries) done → shares.new.items ≡ single_shares (member_read rules.now kept.now.entries) (done ++ item ∷ [])) }
+    requires { (done : List BasisItem) × (shares.old.items ≡ shares_read rules.now kept.now.entries done) }
+    ensures { OnOk result ((done : List BasisItem) → shares.old.items ≡ shares_read rules.now kept.now.entries done → shares.new.items ≡ shares_read rules.now kept.now.entries (done ++ item ∷ [])) }
 {
     match place_of(shares, &item.item.name.aggregate) {
         Ok(place) => push_to(&mut shares[place], item),

@@ -4,7 +4,7 @@ use Rattle.ax_basis.specs.Basis.{Basis}
 use Rattle.ax_state.specs.Batches.{batch_of}
 use Rattle.ax_world.specs.WorldTables.{rows_at}
 use Rattle.ax_step_work.specs.Installing.{stored}
-use Rattle.ax_step_work.proofs.Commits.{stale-answer}
+use Rattle.ax_step_work.proofs.CommitAnswers.{stale-answer}
 use Rattle.ax_step_work.proofs.committing.commit_handled.Goals as goal
 
 pub returns-in-Err : goal.returns-in-Err

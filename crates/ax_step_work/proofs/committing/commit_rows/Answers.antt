@@ -7,7 +7,7 @@ use Rattle.ax_basis.specs.Basis.{Basis}
 use Rattle.ax_world.specs.WorldTables.{processor_tables_at}
 use Rattle.ax_world.proofs.StepMoves.{basis-at}
 use Rattle.ax_step_work.specs.Installing.{tell}
-use Rattle.ax_step_work.proofs.Commits.{single-answer, count-answer, failed-answer, installed-answer}
+use Rattle.ax_step_work.proofs.CommitAnswers.{single-answer, count-answer, failed-answer, installed-answer}
 use Rattle.ax_step_work.proofs.committing.commit_rows.Goals as goal
 
 pub install-requires-clause-single : goal.install-requires-clause-single
