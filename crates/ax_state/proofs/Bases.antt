@@ -24,8 +24,8 @@ module _ (cells later : List Cell) (g : IsGrowth cells later) where
   fetched-later whole b new =
       g.filtered (λ a i. matches b.segment (hash_in whole a) && (covers b.new b.segment.mask (hash_in whole a) i && not (covers b.old b.segment.mask (hash_in whole a) i)))
       (λ a i e. covers-settled cells b.new b.segment.mask (hash_in whole a) i new.each
-          (both (covers b.new b.segment.mask (hash_in whole a) i) (not (covers b.old b.segment.mask (hash_in whole a) i))
-          (both (matches b.segment (hash_in whole a)) (covers b.new b.segment.mask (hash_in whole a) i && not (covers b.old b.segment.mask (hash_in whole a) i)) e).1).0)
+      (both (covers b.new b.segment.mask (hash_in whole a) i) (not (covers b.old b.segment.mask (hash_in whole a) i))
+      (both (matches b.segment (hash_in whole a)) (covers b.new b.segment.mask (hash_in whole a) i && not (covers b.old b.segment.mask (hash_in whole a) i)) e).1).0)
 
   -- so do the events that were handled before
   known-later : (whole : Option Name) (b : Batch) → IsTokenOver cells b.segment.mask b.old → known_events whole b (events later) ≡ known_events whole b (events cells)

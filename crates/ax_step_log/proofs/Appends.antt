@@ -1,5 +1,5 @@
 -- What an append makes of a world.
-use Rattle.std.specs.Prelude.{◌≡◌, ℕ, suc, ◌+◌, ◌≤◌, ◌==◌, Bool, true, false, IfSome, List, [], ◌∷◌, length, map, Option, Some, None, slice_get, slice_set, if◌then◌else◌}
+use Rattle.std.specs.Prelude.{◌≡◌, ℕ, ◌+◌, ◌≤◌, ◌==◌, Bool, true, false, IfSome, List, [], ◌∷◌, length, map, Option, Some, None, slice_get, slice_set, if◌then◌else◌}
 use Rattle.std.specs.List.{AllByRecursion}
 use Rattle.std.proofs.Common.{refl, ap, ap₂, sym, ◌∙◌, subst, inl, arith}
 use Rattle.std.proofs.lemmas.Bool.Decides.{nat_tests}
@@ -89,11 +89,11 @@ move-taken w actor r seq count puts old new h desk batch has goes puts_are can n
     cells = ap (λ (ps : List CellPut). put_all ps w.cells) puts_are
         ∙ put_all-puts_at (map Cell.Event r.records) r.first w.cells (let le : r.first + length r.records ≤ length w.cells = within-held w.cells (name_at w.setting.actors actor) r mine in omega arith)
 
-    tables : AllFrom (IsTable w.setting (events (put_all puts w.cells))) 0 w.processor_tables
-    tables = subst (λ (cs : List Cell). AllFrom (IsTable w.setting (events cs)) 0 w.processor_tables) (sym cells) (tables-grown w.setting w.cells later growth 0 w.processor_tables h.state.processors h.tables)
-
     growth : IsGrowth w.cells later
     growth = fill-growth (aggregate_of r.records) r.first r.records w.cells (fill-taken (state_of w) actor (desk_of old) r taken h.state)
+
+    tables : AllFrom (IsTable w.setting (events (put_all puts w.cells))) 0 w.processor_tables
+    tables = subst (λ (cs : List Cell). AllFrom (IsTable w.setting (events cs)) 0 w.processor_tables) (sym cells) (tables-grown w.setting w.cells later growth 0 w.processor_tables h.state.processors h.tables)
 
     bases : AllByRecursion (λ o. IfSome o (IsBasisOf w.setting (put_all puts w.cells))) (slice_set w.bases actor new.batch)
     bases = bases-moved w (put_all puts w.cells) later actor old.batch new.batch cells growth (ap (λ (d : DeskTables). d.batch) new_is) h batch

@@ -1,4 +1,4 @@
-use Rattle.std.proofs.Common.{◌+◌, ◌≤◌, ◌≡◌, ◌^◌, [], ◌∙◌, sym, ap, subst}
+use Rattle.std.proofs.Common.{◌+◌, ◌≤◌, ◌^◌, [], ◌∙◌, sym, ap, subst}
 use Rattle.ax_world.specs.WorldTables.{state_of}
 use Rattle.ax_world.specs.Moves.{IsMove}
 use Rattle.ax_journal.specs.declared.reply.Reply.{Reply}
