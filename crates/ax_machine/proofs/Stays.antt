@@ -16,7 +16,7 @@ use Rattle.ax_world.specs.Holding.{checked, held_check, held_fence, on_held_row}
 use Rattle.ax_state.specs.Answer.{Answer, answer}
 use Rattle.ax_step_log.specs.Logging.{command_at, sent_decided, appended, appended_unless, with_reservation, reservation_of, reserved_cells, released as unreserved, void_from, voided_cell}
 use Rattle.ax_step_claims.specs.Claiming.{claimed, claimed_reply, granted, extended, released, halved, split_row, joined, merged_with}
-use Rattle.ax_step_work.specs.Working.{Told, commit_batch, commit_over, committed, fetched, fetched_batch, first_left, shares_in, with_batch}
+use Rattle.ax_step_work.specs.Working.{ItemOutcome, commit_batch, commit_over, committed, fetched, fetched_batch, first_unapplied, shares_in, with_batch}
 use Rattle.ax_values.specs.declared.cell.Cell.{Cell}
 use Rattle.ax_sheet.specs.declared.decision.Decided.{Decided}
 use Rattle.ax_journal.specs.declared.order.Order.{Order}
@@ -120,14 +120,14 @@ stays-merged m k p r (Some q) =
 
 -- ---- fetch and commit
 
-stays-committed : (m : State) (k : ℕ) (b : Batch) (r : TokenRow) (o : Option Told) → Stays m (committed m k b r o)
+stays-committed : (m : State) (k : ℕ) (b : Batch) (r : TokenRow) (o : Option ItemOutcome) → Stays m (committed m k b r o)
 stays-committed m k b r (Some f) = record { setting = refl; fence = same m.fence; unfailing = refl }
 stays-committed m k b r None = record { setting = refl; fence = same m.fence; unfailing = refl }
 
 stays-over : (m : State) (k : ℕ) (b : Batch) (o : Option TokenRow) → Stays m (commit_over m k b o)
 stays-over m k b None = record { setting = refl; fence = same m.fence; unfailing = refl }
 stays-over m k b (Some r) =
-    let left = first_left (projection_at m.setting b.processor) true (shares_in m b) in
+    let left = first_unapplied (projection_at m.setting b.processor) true (shares_in m b) in
     pick m (r.fence == b.fence) (committed m k b r left) (answer (with_batch k None m) (Reply.Stale b.fence (Some r.fence)))
     (stays-committed m k b r left) (record { setting = refl; fence = same m.fence; unfailing = refl })
 

@@ -13,7 +13,7 @@ use Rattle.ax_world.specs.WorldTables.{WorldTables, DeskTables, state_of, proces
 use Rattle.ax_world.specs.Fits.{IsWorld}
 use Rattle.ax_world.specs.Moves.{IsMove}
 use Rattle.ax_world.proofs.ProcessorStates.{processor_state-place}
-use Rattle.ax_step_work.specs.Working.{Told, first_left, left_text, shares_in, committed, commit_over, with_batch}
+use Rattle.ax_step_work.specs.Working.{ItemOutcome, first_unapplied, unapplied_text, shares_in, committed, commit_over, with_batch}
 use Rattle.ax_step_work.specs.Installing.{IsCleared, IsSingle, share_items, stored_or, stored, install_move}
 use Rattle.ax_basis.specs.Basis.{Basis}
 use Rattle.ax_state.specs.Batches.{IsBasisOf, batch_of}
@@ -44,7 +44,7 @@ stale-over m actor now b old (Some r) reply e = by (r.fence == b.fence) refl e
     by true k e = absurd (cc)
     by false k e =
         let is : reply ≡ Reply.Stale b.fence (Some r.fence) = cc in
-        ap (λ c. if c then committed m actor b r (first_left (projection_at m.setting b.processor) true (shares_in m b)) else answer (with_batch actor None m) (Reply.Stale b.fence (Some r.fence))) k
+        ap (λ c. if c then committed m actor b r (first_unapplied (projection_at m.setting b.processor) true (shares_in m b)) else answer (with_batch actor None m) (Reply.Stale b.fence (Some r.fence))) k
         ∙ ap (answer (with_batch actor None m)) (sym is)
 
 module _ (w : WorldTables) (actor : ℕ) (basis : Basis) (h : IsWorld w) (mine : (desk_at (state_of w) actor).batch ≡ Some (batch_of basis)) where
@@ -63,9 +63,9 @@ module _ (w : WorldTables) (actor : ℕ) (basis : Basis) (h : IsWorld w) (mine :
     was-stored : IsStored w.clock (batch_of basis) (processor_tables_at w basis.processor).processor_state.rows (row_at basis.segment (processor_tables_at w basis.processor).processor_state.rows) rows
     was-stored = stored-rows w.clock (batch_of basis) (processor_tables_at w basis.processor).processor_state.rows (row_at basis.segment (processor_tables_at w basis.processor).processor_state.rows) rows kept
 
-    pub failed-answer : (t : Told) (mv : Move) → Some t ≡ first_left rs basis.keep basis.shares → mv ≡ record { edits = []; reply = Reply.NotApplied t.item.item.name (left_text t.outcome); report = [] } → IsMove w over mv
+    pub failed-answer : (t : ItemOutcome) (mv : Move) → Some t ≡ first_unapplied rs basis.keep basis.shares → mv ≡ record { edits = []; reply = Reply.NotApplied t.item.item.name (unapplied_text t.outcome); report = [] } → IsMove w over mv
     failed-answer t mv e is =
-        subst (IsMove w over) (sym is) (failed-move w actor basis h mine tied was-stored.row was-stored.found was-stored.fence t (ap (λ rs. first_left rs basis.keep basis.shares) (sym rules_are) ∙ sym e))
+        subst (IsMove w over) (sym is) (failed-move w actor basis h mine tied was-stored.row was-stored.found was-stored.fence t (ap (λ rs. first_unapplied rs basis.keep basis.shares) (sym rules_are) ∙ sym e))
 
     pub single-answer : KeepsLimit w.setting.sheet.chain → AllByRecursion IsSingle basis.shares
     single-answer few = all-single w actor basis h mine tied was-stored.row was-stored.found was-stored.fence few h.state.log.size
@@ -73,10 +73,10 @@ module _ (w : WorldTables) (actor : ℕ) (basis : Basis) (h : IsWorld w) (mine :
     pub count-answer : KeepsLimit w.setting.sheet.chain → length (share_items basis.shares) ≤ 1600000
     count-answer few = count-few w actor basis h mine tied was-stored.row was-stored.found was-stored.fence few h.state.log.size
 
-    pub installed-answer : (desk : DeskTables) (mv : Move) → None ≡ first_left rs basis.keep basis.shares → IsCleared w actor desk → KeepsLimit w.setting.sheet.chain → IsDistinct same_name (map (λ e. e.name) (processor_tables_at w basis.processor).table)
+    pub installed-answer : (desk : DeskTables) (mv : Move) → None ≡ first_unapplied rs basis.keep basis.shares → IsCleared w actor desk → KeepsLimit w.setting.sheet.chain → IsDistinct same_name (map (λ e. e.name) (processor_tables_at w basis.processor).table)
         → actor < length w.desks → mv ≡ install_move rs basis rows actor desk → IsMove w over mv
     installed-answer desk mv e cleared few distinct lt is =
         subst (IsMove w over) (sym is)
         (subst (λ (q : Rules). IsMove w over (install_move q basis rows actor desk)) (sym rules_are)
         (subst (λ (ts : List TokenRow). IsMove w over (install_move (projection_at w.setting basis.processor) basis ts actor desk)) (sym was-stored.rows_are)
-        (installed-move w actor basis h mine tied was-stored.row was-stored.found was-stored.fence (ap (λ rs. first_left rs basis.keep basis.shares) (sym rules_are) ∙ sym e) desk cleared lt distinct h.state.log.size few)))
+        (installed-move w actor basis h mine tied was-stored.row was-stored.found was-stored.fence (ap (λ rs. first_unapplied rs basis.keep basis.shares) (sym rules_are) ∙ sym e) desk cleared lt distinct h.state.log.size few)))

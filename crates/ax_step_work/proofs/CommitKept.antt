@@ -29,7 +29,7 @@ use Rattle.ax_state.proofs.Actors.{same-actor}
 use Rattle.ax_state.proofs.Frames.{seat-at, batch-at, batch-owned, place-there, place-at, place-put, kept-held-row}
 use Rattle.ax_state.proofs.Desks.{kept-emptied}
 use Rattle.ax_state.specs.Batches.{batch_items, shares_of, member_of, known_events}
-use Rattle.ax_step_work.specs.Working.{Told, items_of_batch, shares_in, first_left, installed, committed, commit_over, commit_batch, commit, with_batch}
+use Rattle.ax_step_work.specs.Working.{ItemOutcome, items_of_batch, shares_in, first_unapplied, installed, committed, commit_over, commit_batch, commit, with_batch}
 use Rattle.ax_step_work.specs.Sharing.{member_at, item_names, is_item_of, single_shares}
 use Rattle.ax_step_work.proofs.Advancing.{advanced-keeps}
 use Rattle.ax_step_work.proofs.Folding.{share_of, row_behind, present_row, row-now, fold-append}
@@ -178,12 +178,12 @@ module _ (m : State) (actor : ℕ) (b : Batch) (r : TokenRow) (found : row_at b.
       ∙ sym (present-is a)
 
   -- where none is left, each aggregate's items apply
-  pub all-apply : first_left rules true (shares_in m b) ≡ None → (a : Name) → IsOk (row_behind rules (present_row m b.processor) xs a)
+  pub all-apply : first_unapplied rules true (shares_in m b) ≡ None → (a : Name) → IsOk (row_behind rules (present_row m b.processor) xs a)
   all-apply none a = by (list_any (same_name a) (item_names taken_items)) refl
     where
       by : (c : Bool) → list_any (same_name a) (item_names taken_items) ≡ c → IsOk (row_behind rules (present_row m b.processor) xs a)
       by true h =
-          let f = fold-at rules value taken_items (unmarked b (batch_items None chain b (events m.cells))) (ap (first_left rules true) (sym shares-are) ∙ none) a h in
+          let f = fold-at rules value taken_items (unmarked b (batch_items None chain b (events m.cells))) (ap (first_unapplied rules true) (sym shares-are) ∙ none) a h in
           ok-is (row_behind rules (present_row m b.processor) xs a) f.made
           (ap (λ ys. row_behind rules (present_row m b.processor) ys a) xs-are
           ∙ sym (folded-same rules b a (batch_items None chain b (events m.cells)) (present_row m b.processor a))
@@ -243,7 +243,7 @@ module _ (m : State) (actor : ℕ) (b : Batch) (r : TokenRow) (found : row_at b.
 -- ---- the step
 
 module _ (m : State) (actor : ℕ) (b : Batch) (mine : (desk_at m actor).batch ≡ Some b) (differ : IsTrue (names_differ m.setting.actors)) (h : IsWellFormed m) where
-  kept-committed : (r : TokenRow) → row_at b.segment (processor_state_at m b.processor).rows ≡ Some r → r.fence ≡ b.fence → (o : Option Told) → first_left (projection_at m.setting b.processor) true (shares_in m b) ≡ o
+  kept-committed : (r : TokenRow) → row_at b.segment (processor_state_at m b.processor).rows ≡ Some r → r.fence ≡ b.fence → (o : Option ItemOutcome) → first_unapplied (projection_at m.setting b.processor) true (shares_in m b) ≡ o
       → IsWellFormed (committed m actor b r o).state
   kept-committed r found fence (Some t) e = h
   kept-committed r found fence None e = kept-installed m actor b r found fence mine differ h (all-apply m actor b r found fence mine differ h e)
@@ -252,8 +252,8 @@ module _ (m : State) (actor : ℕ) (b : Batch) (mine : (desk_at m actor).batch �
   kept-over None e = kept-emptied m actor h
   kept-over (Some r) e = by (r.fence == b.fence) refl
     where
-      left : Option Told
-      left = first_left (projection_at m.setting b.processor) true (shares_in m b)
+      left : Option ItemOutcome
+      left = first_unapplied (projection_at m.setting b.processor) true (shares_in m b)
 
       by : (c : Bool) → (r.fence == b.fence) ≡ c → IsWellFormed (if c then committed m actor b r left else answer (with_batch actor None m) (Reply.Stale b.fence (Some r.fence))).state
       by false k = kept-emptied m actor h

@@ -34,7 +34,7 @@ use Rattle.ax_world.specs.Moves.{IsMove}
 use Rattle.ax_world.proofs.OneProcessorChanges.{map_set}
 use Rattle.ax_world.proofs.StepMoves.{unmoved, moved, bases-emptied}
 use Rattle.ax_world.proofs.ProcessorStates.{processor_state-place}
-use Rattle.ax_step_work.specs.Working.{Told, first_left, left_text, shares_in, items_of_batch, installed, committed, commit_over, with_batch}
+use Rattle.ax_step_work.specs.Working.{ItemOutcome, first_unapplied, unapplied_text, shares_in, items_of_batch, installed, committed, commit_over, with_batch}
 use Rattle.ax_step_work.specs.Sharing.{member_read, is_item_of, item_names, single_of, single_shares}
 use Rattle.ax_step_work.specs.Installing.{IsCleared, IsSingle, share_items, entries_after, row_edits, install_edits}
 use Rattle.ax_basis.specs.Basis.{Basis}
@@ -146,19 +146,19 @@ module _ (w : WorldTables) (actor : ℕ) (basis : Basis) (h : IsWorld w) (mine :
         tied.shares ∙ sym (shares-read w basis.processor h batch-declared b r found old-is)
         ∙ ap (λ zs. single_shares (member_read rules x.table) (items b zs)) (sym xs-plain)
 
-    left-is : first_left rules basis.keep basis.shares ≡ first_left rules true (shares_in m b)
-    left-is = ap (λ k. first_left rules k basis.shares) tied.keep ∙ ap (first_left rules true) tied.shares
+    left-is : first_unapplied rules basis.keep basis.shares ≡ first_unapplied rules true (shares_in m b)
+    left-is = ap (λ k. first_unapplied rules k basis.shares) tied.keep ∙ ap (first_unapplied rules true) tied.shares
 
-    over-is : commit_over m actor b (row_at b.segment (processor_state_at m basis.processor).rows) ≡ committed m actor b r (first_left rules true (shares_in m b))
+    over-is : commit_over m actor b (row_at b.segment (processor_state_at m basis.processor).rows) ≡ committed m actor b r (first_unapplied rules true (shares_in m b))
     over-is =
         ap (commit_over m actor b) found-there
-        ∙ ap (λ c. if c then committed m actor b r (first_left rules true (shares_in m b)) else answer (with_batch actor None m) (Reply.Stale b.fence (Some r.fence))) (let t : (r.fence == b.fence) ≡ true = grind (arith, nat_tests, fence) in t)
+        ∙ ap (λ c. if c then committed m actor b r (first_unapplied rules true (shares_in m b)) else answer (with_batch actor None m) (Reply.Stale b.fence (Some r.fence))) (let t : (r.fence == b.fence) ≡ true = grind (arith, nat_tests, fence) in t)
 
-    pub failed-move : (t : Told) → first_left rules basis.keep basis.shares ≡ Some t
-        → IsMove w (commit_over m actor b (row_at b.segment (processor_state_at m basis.processor).rows)) (record { edits = []; reply = Reply.NotApplied t.item.item.name (left_text t.outcome); report = [] })
+    pub failed-move : (t : ItemOutcome) → first_unapplied rules basis.keep basis.shares ≡ Some t
+        → IsMove w (commit_over m actor b (row_at b.segment (processor_state_at m basis.processor).rows)) (record { edits = []; reply = Reply.NotApplied t.item.item.name (unapplied_text t.outcome); report = [] })
     failed-move t e =
-        subst (λ a. IsMove w a (record { edits = []; reply = Reply.NotApplied t.item.item.name (left_text t.outcome); report = [] })) (sym (over-is ∙ ap (committed m actor b r) (sym left-is ∙ e)))
-        (unmoved w (Reply.NotApplied t.item.item.name (left_text t.outcome)) h)
+        subst (λ a. IsMove w a (record { edits = []; reply = Reply.NotApplied t.item.item.name (unapplied_text t.outcome); report = [] })) (sym (over-is ∙ ap (committed m actor b r) (sym left-is ∙ e)))
+        (unmoved w (Reply.NotApplied t.item.item.name (unapplied_text t.outcome)) h)
 
     -- ---- how large the shares are
 
@@ -184,7 +184,7 @@ module _ (w : WorldTables) (actor : ℕ) (basis : Basis) (h : IsWorld w) (mine :
         let k : covered a ≤ 1600000 = covered-few whole chain (portions x.processor_state.rows) a w.cells few size in omega (arith, e, k)))
         (let k : length xs ≤ 1600000 = batch-few whole chain b w.cells few size in let l : length ys ≡ length xs = length-map xs _ in omega (arith, k, l)))
 
-    module _ (none : first_left rules basis.keep basis.shares ≡ None) (desk : DeskTables) (cleared : IsCleared w actor desk) where
+    module _ (none : first_unapplied rules basis.keep basis.shares ≡ None) (desk : DeskTables) (cleared : IsCleared w actor desk) where
       abbrev new : TokenRow
       new = record r { token = b.new; since = w.clock }
 
@@ -200,7 +200,7 @@ module _ (w : WorldTables) (actor : ℕ) (basis : Basis) (h : IsWorld w) (mine :
       abbrev changes : List Edit
       changes = install_edits basis.processor puts rows actor desk
 
-      none-left : first_left rules true (shares_in m b) ≡ None
+      none-left : first_unapplied rules true (shares_in m b) ≡ None
       none-left = sym left-is ∙ none
 
       puts-are : puts ≡ entries_after rules true (single_shares (member_read rules x.table) ys)
@@ -209,7 +209,7 @@ module _ (w : WorldTables) (actor : ℕ) (basis : Basis) (h : IsWorld w) (mine :
       standing-rows : Stands rules x.table (present_row m basis.processor) xs puts
       standing-rows =
           subst (Stands rules x.table (present_row m basis.processor) xs) (sym puts-are)
-          (stands rules x.table (present_row m basis.processor) b xs kept-row (ap (first_left rules true) (sym basis-shares ∙ tied.shares) ∙ none-left))
+          (stands rules x.table (present_row m basis.processor) b xs kept-row (ap (first_unapplied rules true) (sym basis-shares ∙ tied.shares) ∙ none-left))
 
       more : IsAdded whole chain es x.processor_state.rows rows b
       more = subst (λ (s : ProcessorState). IsAdded whole chain es s.rows (put_row new s.rows) b) same (added m actor b r found-there fence mine differ h.state)

@@ -1,5 +1,5 @@
 -- The walk over the indexes that the old token does not cover for some hash: which of them are fetched.
-use Rattle.std.proofs.Common.{◌≡◌, ℕ, min, ◌+◌, ◌<◌, ◌≤◌, true, false, List, [], ◌∷◌, ◌++◌, length, get_or, filter, Option, ◌∙◌, arith}
+use Rattle.std.proofs.Common.{◌≡◌, ℕ, min, ◌+◌, ◌<◌, ◌≤◌, true, false, List, [], ◌++◌, length, get_or, filter, Option, ◌∙◌, arith}
 use Rattle.ax_values.specs.Grammar.{Name}
 use Rattle.ax_values.specs.declared.cell.Cell.{Cell}
 use Rattle.ax_log.specs.Log.{Stored, events}

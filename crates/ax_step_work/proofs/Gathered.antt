@@ -1,5 +1,5 @@
 -- The loops of a fetch: one cell more, one item more, one share that grows.
-use Rattle.std.proofs.Common.{◌≡◌, ℕ, suc, ◌+◌, ◌<◌, Bool, true, false, List, [], ◌∷◌, ◌++◌, length, map, filter, flat_map, drop, get_or, drop-cons, slice_set, None, Result, Ok, Err, if◌then◌else◌, refl, sym, ap, ◌∙◌, subst, arith}
+use Rattle.std.proofs.Common.{◌≡◌, ℕ, true, List, [], ◌∷◌, ◌++◌, map, filter, flat_map, get_or, slice_set, None, Result, Ok, Err, sym, ap, ◌∙◌, subst}
 use Rattle.std.specs.Prelude.{insert, OnOk}
 use Rattle.std.proofs.lemmas.List.{map-append}
 use Rattle.std.proofs.lemmas.Grind.{flat_map-append}
@@ -7,16 +7,14 @@ use Rattle.std.proofs.lemmas.Option.{get_or_from_slice_get}
 use Rattle.ax_laws.proofs.Tests.{or-false}
 use Rattle.ax_values.specs.Grammar.{Name}
 use Rattle.ax_values.specs.Words.{same_name}
-use Rattle.ax_log.specs.Log.{Stored, events_from}
+use Rattle.ax_log.specs.Log.{Stored}
 use Rattle.ax_projections.specs.Items.{placed_items}
 use Rattle.ax_projections.proofs.NameLaws.{name-refl}
 use Rattle.ax_basis.specs.Basis.{Share, is_of_member}
 use Rattle.ax_state.specs.State.{Batch}
-use Rattle.ax_state.specs.Batches.{is_fetched, fetched_events, basis_item, batch_items}
-use Rattle.ax_step_work.specs.Sharing.{event_items, single, single_shares, HasShare, LacksShare}
+use Rattle.ax_state.specs.Batches.{basis_item}
+use Rattle.ax_step_work.specs.Sharing.{single, single_shares, HasShare, LacksShare}
 use Rattle.ax_step_work.proofs.Singles.{single-got, found-next, lacks-next}
-use Rattle.ax_values.specs.declared.cell.Cell.{Cell}
-use Rattle.ax_values.specs.declared.record.Record.{Record}
 use Rattle.ax_basis.specs.declared.item.BasisItem.{BasisItem}
 use Rattle.ax_basis.specs.declared.item.Member.{Member}
 use Rattle.ax_upcast.specs.declared.upcaster.Upcaster.{Upcaster}

@@ -14,7 +14,7 @@ use Rattle.ax_projections.proofs.NameLaws.{name-is, name-refl}
 use Rattle.ax_basis.specs.Outcomes.{name_place, row_in_place, tried, outcomes_after, outcomes_from, rows_after, share_result}
 use Rattle.ax_state.specs.Batches.{rising_names}
 use Rattle.ax_state.proofs.Lists.{All-map}
-use Rattle.ax_step_work.specs.Working.{Told, told, told_share, is_left, first_left}
+use Rattle.ax_step_work.specs.Working.{ItemOutcome, item_outcomes, share_outcomes, is_unapplied, first_unapplied}
 use Rattle.ax_step_work.specs.Sharing.{member_at, item_names, is_item_of, single_of, single_shares}
 use Rattle.ax_step_work.specs.Installing.{share_items, entries_by, share_entries, entries_after}
 use Rattle.ax_step_work.proofs.Names.{RisingNames, names-rise, any-names, above, rest-rises, same-by, all-any}
@@ -68,20 +68,20 @@ module _ (rules : Rules) (a : Name) where
       ap (λ p. rows_after rules (a ∷ []) xs os (slice_set (row ∷ []) p (row_or (row_in_place p (row ∷ [])) (applied rules (row_in_place p (row ∷ [])) x.item)))) (place-here x plain.0)
       ∙ ap (λ o. rows_after rules (a ∷ []) xs os (row_or row o ∷ [])) e
 
-  left_in : List BasisItem → List Outcome → Option Told
-  left_in xs os = find (λ t. is_left t.outcome) (told xs os)
+  left_in : List BasisItem → List Outcome → Option ItemOutcome
+  left_in xs os = find (λ t. is_unapplied t.outcome) (item_outcomes xs os)
 
-  pub folds : (xs : List BasisItem) (row : Row) → AllByRecursion (IsPlain a) xs → find (λ t. is_left t.outcome) (told xs (outcomes_from rules true (a ∷ []) xs (row ∷ []))) ≡ None → Fold xs row
+  pub folds : (xs : List BasisItem) (row : Row) → AllByRecursion (IsPlain a) xs → find (λ t. is_unapplied t.outcome) (item_outcomes xs (outcomes_from rules true (a ∷ []) xs (row ∷ []))) ≡ None → Fold xs row
   folds [] row plain none = record { made = row; folded = refl; rows = refl }
   folds (x ∷ xs) row plain none = by (applied rules row x.item) refl (λ next k. folds xs next plain.1 k)
     where
       by : (o : Result Row Cause) → applied rules row x.item ≡ o
-          → ((next : Row) → find (λ t. is_left t.outcome) (told xs (outcomes_from rules true (a ∷ []) xs (next ∷ []))) ≡ None → Fold xs next) → Fold (x ∷ xs) row
+          → ((next : Row) → find (λ t. is_unapplied t.outcome) (item_outcomes xs (outcomes_from rules true (a ∷ []) xs (next ∷ []))) ≡ None → Fold xs next) → Fold (x ∷ xs) row
       by (Err c) e again =
-          let is : outcomes_from rules true (a ∷ []) (x ∷ xs) (row ∷ []) ≡ Outcome.Parked (Why.Failed c) ∷ map (λ x. Outcome.Parked Why.Behind) xs = first-outcomes x xs row (Err c) plain.0 e in absurd (none-some (record { item = x; outcome = Outcome.Parked (Why.Failed c) }) (sym none ∙ ap (λ os. find (λ t. is_left t.outcome) (told (x ∷ xs) os)) is))
+          let is : outcomes_from rules true (a ∷ []) (x ∷ xs) (row ∷ []) ≡ Outcome.Parked (Why.Failed c) ∷ map (λ x. Outcome.Parked Why.Behind) xs = first-outcomes x xs row (Err c) plain.0 e in absurd (none-some (record { item = x; outcome = Outcome.Parked (Why.Failed c) }) (sym none ∙ ap (λ os. find (λ t. is_unapplied t.outcome) (item_outcomes (x ∷ xs) os)) is))
       by (Ok next) e again =
           let is = applied-outcomes x xs row next plain.0 e in
-          let f = again next (sym (ap (λ os. find (λ t. is_left t.outcome) (told (x ∷ xs) os)) is) ∙ none) in
+          let f = again next (sym (ap (λ os. find (λ t. is_unapplied t.outcome) (item_outcomes (x ∷ xs) os)) is) ∙ none) in
           record {
             made = f.made;
             folded = ap (λ o. and_then o (λ next. fold_from rules (only_items xs) next)) e ∙ f.folded;
@@ -90,12 +90,12 @@ module _ (rules : Rules) (a : Name) where
 
 -- ---- all shares
 
-none-first : (ts us : List Told) → find (λ t. is_left t.outcome) (ts ++ us) ≡ None → (find (λ t. is_left t.outcome) ts ≡ None) × (find (λ t. is_left t.outcome) us ≡ None)
+none-first : (ts us : List ItemOutcome) → find (λ t. is_unapplied t.outcome) (ts ++ us) ≡ None → (find (λ t. is_unapplied t.outcome) ts ≡ None) × (find (λ t. is_unapplied t.outcome) us ≡ None)
 none-first [] us h = (refl, h)
-none-first (t ∷ ts) us h = at (is_left t.outcome) h (none-first ts us)
+none-first (t ∷ ts) us h = at (is_unapplied t.outcome) h (none-first ts us)
   where
-    at : (b : Bool) → (if b then Some t else find (λ t. is_left t.outcome) (ts ++ us)) ≡ None → (find (λ t. is_left t.outcome) (ts ++ us) ≡ None → (find (λ t. is_left t.outcome) ts ≡ None) × (find (λ t. is_left t.outcome) us ≡ None))
-        → ((if b then Some t else find (λ t. is_left t.outcome) ts) ≡ None) × (find (λ t. is_left t.outcome) us ≡ None)
+    at : (b : Bool) → (if b then Some t else find (λ t. is_unapplied t.outcome) (ts ++ us)) ≡ None → (find (λ t. is_unapplied t.outcome) (ts ++ us) ≡ None → (find (λ t. is_unapplied t.outcome) ts ≡ None) × (find (λ t. is_unapplied t.outcome) us ≡ None))
+        → ((if b then Some t else find (λ t. is_unapplied t.outcome) ts) ≡ None) × (find (λ t. is_unapplied t.outcome) us ≡ None)
     at true h again = absurd (cc)
     at false h again = again h
 
@@ -125,16 +125,16 @@ module _ (rules : Rules) (value : Name → Positioned) (xs : List BasisItem) (ma
   abbrev IsFold : Name → Type 0
   IsFold a = Fold rules a (own a) (value a).row
 
-  all-fold : (ns : List Name) → find (λ t. is_left t.outcome) (flat_map (told_share rules true) (map (single_of member xs) ns)) ≡ None → AllByRecursion IsFold ns
+  all-fold : (ns : List Name) → find (λ t. is_unapplied t.outcome) (flat_map (share_outcomes rules true) (map (single_of member xs) ns)) ≡ None → AllByRecursion IsFold ns
   all-fold [] h = tt
   all-fold (n ∷ ns) h =
-      let k = none-first (told_share rules true (single_of member xs n)) (flat_map (told_share rules true) (map (single_of member xs) ns)) h in
+      let k = none-first (share_outcomes rules true (single_of member xs n)) (flat_map (share_outcomes rules true) (map (single_of member xs) ns)) h in
       (folds rules n (own n) (value n).row (own-plain n xs marked) k.0, all-fold ns k.1)
 
   abbrev names : List Name
   names = rising_names (item_names xs)
 
-  module _ (none : first_left rules true (single_shares member xs) ≡ None) where
+  module _ (none : first_unapplied rules true (single_shares member xs) ≡ None) where
     folds-all : AllByRecursion IsFold names
     folds-all = all-fold names none
 

@@ -1,9 +1,7 @@
 -- How far tokens reach, and the events of the cells between.
-use Rattle.std.proofs.Common.{◌≡◌, ℕ, zero, suc, min, ◌+◌, ◌-◌, ◌<◌, ◌≤◌, ◌&&◌, Bool, true, false, not, List, [], ◌∷◌, length, take, drop, filter, Option, length-drop, if◌then◌else◌, refl, sym, ap, ◌∙◌, arith}
+use Rattle.std.proofs.Common.{◌≡◌, ℕ, suc, ◌<◌, ◌≤◌, ◌&&◌, Bool, true, false, not, Option, refl, ap, ◌∙◌, arith}
 use borrow.Author.Tests.{lt-ltb}
-use Rattle.ax_values.specs.declared.cell.Cell.{Cell}
-use Rattle.ax_values.specs.declared.record.Record.{Record}
-use Rattle.ax_log.specs.Log.{Stored, events_from, events}
+use Rattle.ax_log.specs.Log.{Stored}
 use Rattle.ax_segments.specs.Segments.{Segment, matches}
 use Rattle.ax_segments.specs.Sequences.{hash_in}
 use Rattle.ax_values.specs.Grammar.{Name}

@@ -12,7 +12,7 @@ use Rattle.ax_projections.specs.Items.{Placed, plain_items}
 use Rattle.ax_projections.specs.Rebuild.{or_start}
 use Rattle.ax_state.specs.State.{Batch}
 use Rattle.ax_state.specs.Batches.{rising_names, sequence_items}
-use Rattle.ax_step_work.specs.Working.{first_left}
+use Rattle.ax_step_work.specs.Working.{first_unapplied}
 use Rattle.ax_step_work.specs.Sharing.{member_read, item_names, is_item_of, single_shares}
 use Rattle.ax_step_work.specs.Installing.{entries_after}
 use Rattle.ax_step_work.proofs.Folding.{share_of, row_behind}
@@ -54,7 +54,7 @@ module _ (rules : Rules) (kept : List Entry) (row : Name → Row) (b : Batch) (x
   any-same : (a : Name) (c : Bool) → list_any (same_name a) (item_names ys) ≡ c → list_any (same_name a) (placed_names xs) ≡ c
   any-same a c h = sym (ap (list_any (same_name a)) (names-same b xs)) ∙ h
 
-  module _ (none : first_left rules true (single_shares (member_read rules kept) ys) ≡ None) where
+  module _ (none : first_unapplied rules true (single_shares (member_read rules kept) ys) ≡ None) where
     marked : AllByRecursion (λ x. x.marked ≡ false) ys
     marked = unmarked b xs
 

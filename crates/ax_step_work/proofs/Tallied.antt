@@ -7,7 +7,7 @@ use Rattle.ax_rules.specs.Expr.{Row}
 use Rattle.ax_rules.specs.Rules.{Rules}
 use Rattle.ax_basis.specs.Basis.{Share, member_names, member_rows}
 use Rattle.ax_basis.specs.Outcomes.{rows_after, share_result, outcomes}
-use Rattle.ax_step_work.specs.Working.{Told, told, told_share, is_left, first_left}
+use Rattle.ax_step_work.specs.Working.{ItemOutcome, item_outcomes, share_outcomes, is_unapplied, first_unapplied}
 use Rattle.ax_step_work.specs.Installing.{IsSingle, share_items, share_entries, entries_after, row_edits}
 use Rattle.ax_basis.specs.declared.item.BasisItem.{BasisItem}
 use Rattle.ax_basis.specs.declared.outcome.Outcome.{Outcome}
@@ -27,29 +27,29 @@ next_count ss i s lt e = ap (λ ts. length (share_items ts)) (share-here ss i s 
 
 -- ---- the first that is left
 
-abbrev pub left_of : List BasisItem → List Outcome → Option Told
-left_of xs os = find (λ t. is_left t.outcome) (told xs os)
+abbrev pub left_of : List BasisItem → List Outcome → Option ItemOutcome
+left_of xs os = find (λ t. is_unapplied t.outcome) (item_outcomes xs os)
 
 told-suc : (xs : List BasisItem) (os : List Outcome) (i : ℕ) (x : BasisItem) (o : Outcome) → i < length xs → x ≡ get_or xs i x → slice_get os i ≡ Some o
-    → told (drop i xs) (drop i os) ≡ record { item = x; outcome = o } ∷ told (drop (suc i) xs) (drop (suc i) os)
+    → item_outcomes (drop i xs) (drop i os) ≡ record { item = x; outcome = o } ∷ item_outcomes (drop (suc i) xs) (drop (suc i) os)
 told-suc [] os i x o lt e h = absurd (omega arith)
 told-suc (y ∷ xs) [] i x o lt e h = absurd (cc)
-told-suc (y ∷ xs) (p ∷ os) zero x o lt e h = let is : p ≡ o = cc in ap (λ z. record { item = z; outcome = p } ∷ told xs os) (sym e) ∙ ap (λ q. record { item = x; outcome = q } ∷ told xs os) is
+told-suc (y ∷ xs) (p ∷ os) zero x o lt e h = let is : p ≡ o = cc in ap (λ z. record { item = z; outcome = p } ∷ item_outcomes xs os) (sym e) ∙ ap (λ q. record { item = x; outcome = q } ∷ item_outcomes xs os) is
 told-suc (y ∷ xs) (p ∷ os) (suc i) x o lt e h = told-suc xs os i x o (omega arith) e h
 
 pub told-next : (xs : List BasisItem) (os : List Outcome) (i : ℕ) (x : BasisItem) (o : Outcome) → i < length xs → x ≡ get_or xs i x → slice_get os i ≡ Some o
-    → told (drop i xs) (drop i os) ≡ record { item = x; outcome = o } ∷ told (drop (i + 1) xs) (drop (i + 1) os)
-told-next xs os i x o lt e h = let next : suc i ≡ i + 1 = omega arith in told-suc xs os i x o lt e h ∙ ap (λ n. record { item = x; outcome = o } ∷ told (drop n xs) (drop n os)) next
+    → item_outcomes (drop i xs) (drop i os) ≡ record { item = x; outcome = o } ∷ item_outcomes (drop (i + 1) xs) (drop (i + 1) os)
+told-next xs os i x o lt e h = let next : suc i ≡ i + 1 = omega arith in told-suc xs os i x o lt e h ∙ ap (λ n. record { item = x; outcome = o } ∷ item_outcomes (drop n xs) (drop n os)) next
 
-pub told-end : (xs : List BasisItem) (os : List Outcome) (i : ℕ) → slice_get os i ≡ None → told (drop i xs) (drop i os) ≡ []
+pub told-end : (xs : List BasisItem) (os : List Outcome) (i : ℕ) → slice_get os i ≡ None → item_outcomes (drop i xs) (drop i os) ≡ []
 told-end xs [] zero h = none xs
   where
-    none : (xs : List BasisItem) → told xs [] ≡ []
+    none : (xs : List BasisItem) → item_outcomes xs [] ≡ []
     none [] = refl
     none (x ∷ xs) = refl
 told-end xs [] (suc i) h = none (drop (suc i) xs)
   where
-    none : (xs : List BasisItem) → told xs [] ≡ []
+    none : (xs : List BasisItem) → item_outcomes xs [] ≡ []
     none [] = refl
     none (x ∷ xs) = refl
 told-end xs (o ∷ os) zero h = absurd (cc)
@@ -57,29 +57,29 @@ told-end [] (o ∷ os) (suc i) h = refl
 told-end (x ∷ xs) (o ∷ os) (suc i) h = told-end xs os i h
 
 -- the item at a place is left, or is not
-pub left-here : (xs : List BasisItem) (os : List Outcome) (i : ℕ) (x : BasisItem) (o : Outcome) (c : Bool) → i < length xs → x ≡ get_or xs i x → slice_get os i ≡ Some o → is_left o ≡ c
+pub left-here : (xs : List BasisItem) (os : List Outcome) (i : ℕ) (x : BasisItem) (o : Outcome) (c : Bool) → i < length xs → x ≡ get_or xs i x → slice_get os i ≡ Some o → is_unapplied o ≡ c
     → left_of (drop i xs) (drop i os) ≡ (if c then Some (record { item = x; outcome = o }) else left_of (drop (i + 1) xs) (drop (i + 1) os))
 left-here xs os i x o c lt e h k =
-    ap (find (λ t. is_left t.outcome)) (told-next xs os i x o lt e h) ∙ ap (λ c. if c then Some (record { item = x; outcome = o }) else left_of (drop (i + 1) xs) (drop (i + 1) os)) k
+    ap (find (λ t. is_unapplied t.outcome)) (told-next xs os i x o lt e h) ∙ ap (λ c. if c then Some (record { item = x; outcome = o }) else left_of (drop (i + 1) xs) (drop (i + 1) os)) k
 
-abbrev pub first_some : Option Told → Option Told → Option Told
+abbrev pub first_some : Option ItemOutcome → Option ItemOutcome → Option ItemOutcome
 first_some None later = later
 first_some (Some t) later = Some t
 
-find-first : (ts us : List Told) → find (λ t. is_left t.outcome) (ts ++ us) ≡ first_some (find (λ t. is_left t.outcome) ts) (find (λ t. is_left t.outcome) us)
+find-first : (ts us : List ItemOutcome) → find (λ t. is_unapplied t.outcome) (ts ++ us) ≡ first_some (find (λ t. is_unapplied t.outcome) ts) (find (λ t. is_unapplied t.outcome) us)
 find-first [] us = refl
-find-first (t ∷ ts) us = at (is_left t.outcome) (find-first ts us)
+find-first (t ∷ ts) us = at (is_unapplied t.outcome) (find-first ts us)
   where
-    at : (c : Bool) → find (λ t. is_left t.outcome) (ts ++ us) ≡ first_some (find (λ t. is_left t.outcome) ts) (find (λ t. is_left t.outcome) us)
-        → (if c then Some t else find (λ t. is_left t.outcome) (ts ++ us)) ≡ first_some (if c then Some t else find (λ t. is_left t.outcome) ts) (find (λ t. is_left t.outcome) us)
+    at : (c : Bool) → find (λ t. is_unapplied t.outcome) (ts ++ us) ≡ first_some (find (λ t. is_unapplied t.outcome) ts) (find (λ t. is_unapplied t.outcome) us)
+        → (if c then Some t else find (λ t. is_unapplied t.outcome) (ts ++ us)) ≡ first_some (if c then Some t else find (λ t. is_unapplied t.outcome) ts) (find (λ t. is_unapplied t.outcome) us)
     at true h = refl
     at false h = h
 
 -- one share more
-pub shares-next : (rules : Rules) (keep : Bool) (ss : List Share) (i : ℕ) (s : Share) (o : Option Told) → i < length ss → s ≡ get_or ss i s → left_of s.items (outcomes rules keep s) ≡ o
-    → first_left rules keep (drop i ss) ≡ first_some o (first_left rules keep (drop (i + 1) ss))
+pub shares-next : (rules : Rules) (keep : Bool) (ss : List Share) (i : ℕ) (s : Share) (o : Option ItemOutcome) → i < length ss → s ≡ get_or ss i s → left_of s.items (outcomes rules keep s) ≡ o
+    → first_unapplied rules keep (drop i ss) ≡ first_some o (first_unapplied rules keep (drop (i + 1) ss))
 shares-next rules keep ss i s o lt e h =
-    ap (first_left rules keep) (share-here ss i s lt e) ∙ find-first (told_share rules keep s) (flat_map (told_share rules keep) (drop (i + 1) ss)) ∙ ap (λ o. first_some o (first_left rules keep (drop (i + 1) ss))) h
+    ap (first_unapplied rules keep) (share-here ss i s lt e) ∙ find-first (share_outcomes rules keep s) (flat_map (share_outcomes rules keep) (drop (i + 1) ss)) ∙ ap (λ o. first_some o (first_unapplied rules keep (drop (i + 1) ss))) h
 
 -- the result of a share stands in its place
 pub result-here : (rules : Rules) (keep : Bool) (ss : List Share) (i : ℕ) (s : Share) (made : ShareResult) → i < length ss → s ≡ get_or ss i s → made ≡ get_or (map (share_result rules keep) ss) i made → made ≡ share_result rules keep s
@@ -98,18 +98,18 @@ module _ (rules : Rules) (keep : Bool) (all ss : List Share) (rs : List ShareRes
   pub made-is : made ≡ share_result rules keep s
   made-is = result-here rules keep ss i s made lt here (there ∙ ap (λ rs. get_or rs i made) results_are ∙ ap (λ ts. get_or (map (share_result rules keep) ts) i made) (sym shares_are))
 
-  module _ (xs : List BasisItem) (os : List Outcome) (o : Option Told) (items_are : xs ≡ s.items) (outcomes_are : os ≡ made.outcomes) (left : left_of xs os ≡ o) where
+  module _ (xs : List BasisItem) (os : List Outcome) (o : Option ItemOutcome) (items_are : xs ≡ s.items) (outcomes_are : os ≡ made.outcomes) (left : left_of xs os ≡ o) where
     left-share : left_of s.items (outcomes rules keep s) ≡ o
     left-share = ap (left_of s.items) (sym (outcomes_are ∙ ap (λ (r : ShareResult). r.outcomes) made-is)) ∙ ap (λ xs. left_of xs os) (sym items_are) ∙ left
 
-    left-then : first_left rules keep (drop i ss) ≡ first_some o (first_left rules keep (drop (i + 1) ss))
+    left-then : first_unapplied rules keep (drop i ss) ≡ first_some o (first_unapplied rules keep (drop (i + 1) ss))
     left-then = shares-next rules keep ss i s o lt here left-share
 
-    pub left-found : (t : Told) → o ≡ Some t → first_left rules keep (drop i ss) ≡ first_left rules keep ss → Some t ≡ first_left rules keep all
-    left-found t is same = sym (ap (λ o. first_some o (first_left rules keep (drop (i + 1) ss))) is) ∙ sym left-then ∙ same ∙ ap (first_left rules keep) shares_are
+    pub left-found : (t : ItemOutcome) → o ≡ Some t → first_unapplied rules keep (drop i ss) ≡ first_unapplied rules keep ss → Some t ≡ first_unapplied rules keep all
+    left-found t is same = sym (ap (λ o. first_some o (first_unapplied rules keep (drop (i + 1) ss))) is) ∙ sym left-then ∙ same ∙ ap (first_unapplied rules keep) shares_are
 
-    pub left-passed : o ≡ None → first_left rules keep (drop i ss) ≡ first_left rules keep ss → first_left rules keep (drop (i + 1) ss) ≡ first_left rules keep ss
-    left-passed is same = sym (ap (λ o. first_some o (first_left rules keep (drop (i + 1) ss))) is) ∙ sym left-then ∙ same
+    pub left-passed : o ≡ None → first_unapplied rules keep (drop i ss) ≡ first_unapplied rules keep ss → first_unapplied rules keep (drop (i + 1) ss) ≡ first_unapplied rules keep ss
+    left-passed is same = sym (ap (λ o. first_some o (first_unapplied rules keep (drop (i + 1) ss))) is) ∙ sym left-then ∙ same
 
 -- ---- entries
 

@@ -15,9 +15,9 @@ use Rattle.ax_journal.specs.declared.reply.Reply.{Reply}
 use Rattle.ax_basis.specs.declared.item.BasisItem.{BasisItem}
 use Rattle.ax_basis.specs.declared.item.Member.{Member}
 use Rattle.ax_basis.specs.declared.outcome.Outcome.{Outcome}
-use Rattle.ax_step_work.specs.Working.{Told}
+use Rattle.ax_step_work.specs.Working.{ItemOutcome}
 
-abbrev pub tell : BasisItem → Outcome → Told
+abbrev pub tell : BasisItem → Outcome → ItemOutcome
 tell x o = record { item = x; outcome = o }
 
 -- the items of all shares

@@ -1,12 +1,9 @@
 -- How far a token reaches: between which indexes it covers all, and from which on it covers none.
-use Rattle.std.specs.Prelude.{◌≡◌, ℕ, ◌<◌, ◌≤◌, Bool, true, false, ◌||◌, IsTrue, List, [], ◌∷◌, Option, filter, if◌then◌else◌}
-use Rattle.ax_values.specs.Grammar.{Name}
+use Rattle.std.specs.Prelude.{◌≡◌, ℕ, ◌<◌, ◌≤◌, Bool, true, false, ◌||◌, IsTrue, List, [], ◌∷◌, if◌then◌else◌}
 use Rattle.ax_values.specs.declared.cell.Cell.{Cell}
-use Rattle.ax_log.specs.Log.{Stored, events_from, events, is_settled}
-use Rattle.ax_segments.specs.Segments.{Segment}
+use Rattle.ax_log.specs.Log.{Stored, is_settled}
 use Rattle.ax_tokens.specs.Plain.{has}
 use Rattle.ax_tokens.specs.Tokens.{Token, plain, merged, replay, covers}
-use Rattle.ax_state.specs.Batches.{is_fetched}
 
 -- each index that is at least a and below n is covered, for every hash
 abbrev pub IsCoveredBetween : Token → ℕ → ℕ → Type 0

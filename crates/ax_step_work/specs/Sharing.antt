@@ -1,5 +1,5 @@
 -- How a fetch makes shares of the items that it takes, with what the kept rows have of their aggregates.
-use Rattle.std.specs.Prelude.{◌≡◌, ℕ, ◌<◌, ◌≤◌, false, List, [], ◌∷◌, map, filter, length, Result, Ok, Err, slice_get, slice_set, insert, Bool, Some, None}
+use Rattle.std.specs.Prelude.{◌≡◌, ℕ, ◌<◌, ◌≤◌, false, List, [], ◌∷◌, map, filter, flat_map, length, Result, Ok, Err, slice_get, slice_set, insert, Bool, Some, None}
 use Rattle.std.specs.List.{list_any}
 use Rattle.std.specs.Ordering.{is_lt}
 use Rattle.std.specs.declared.cmp.Ordering.{Ordering}
@@ -14,12 +14,13 @@ use Rattle.ax_projections.specs.declared.table.Positioned.{Positioned}
 use Rattle.ax_basis.specs.Basis.{Share}
 use Rattle.ax_state.specs.State.{Batch}
 use Rattle.ax_state.specs.Setting.{projection_at}
-use Rattle.ax_state.specs.Batches.{basis_item, batch_items, rising_names}
+use Rattle.ax_state.specs.Batches.{basis_item, batch_items, is_fetched, rising_names}
 use Rattle.ax_world.specs.WorldTables.{WorldTables, processor_tables_at}
 use Rattle.ax_log.specs.Log.{Stored, events}
 use Rattle.ax_projections.specs.Items.{placed_items}
 use Rattle.ax_upcast.specs.declared.upcaster.Upcaster.{Upcaster}
 use Rattle.ax_values.specs.declared.cell.Cell.{Cell}
+use Rattle.ax_step_work.specs.Reach.{events_at}
 use Rattle.ax_basis.specs.declared.item.BasisItem.{BasisItem}
 use Rattle.ax_basis.specs.declared.item.Member.{Member}
 
@@ -59,6 +60,10 @@ shares_read rules kept xs = single_shares (member_read rules kept) xs
 
 abbrev pub event_items : List Upcaster → Batch → Stored → List BasisItem
 event_items chain b e = map (basis_item None b) (placed_items chain e)
+
+-- the items of the cell at an index, where its event is taken
+abbrev pub cell_items : List Upcaster → Batch → ℕ → Cell → List BasisItem
+cell_items chain b i c = map (basis_item None b) (flat_map (placed_items chain) (events_at (is_fetched None b.segment b.old b.new) i c))
 
 abbrev pub items_taken : List Upcaster → Batch → List Cell → List BasisItem
 items_taken chain b cells = map (basis_item None b) (batch_items None chain b (events cells))

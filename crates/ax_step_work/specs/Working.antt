@@ -74,33 +74,33 @@ fetch m actor name s most = fetch_at m actor (processor_number m.setting.process
 -- ---- what becomes of the items of a batch
 
 -- an item with its outcome
-pub record Told : Type 0 where
+pub record ItemOutcome : Type 0 where
   pub item : BasisItem
   pub outcome : Outcome
 
-abbrev pub told : List BasisItem → List Outcome → List Told
-told [] os = []
-told (x ∷ xs) [] = []
-told (x ∷ xs) (o ∷ os) = record { item = x; outcome = o } ∷ told xs os
+abbrev pub item_outcomes : List BasisItem → List Outcome → List ItemOutcome
+item_outcomes [] os = []
+item_outcomes (x ∷ xs) [] = []
+item_outcomes (x ∷ xs) (o ∷ os) = record { item = x; outcome = o } ∷ item_outcomes xs os
 
 -- the items of a share with their outcomes
-abbrev pub told_share : Rules → Bool → Share → List Told
-told_share rules keep s = told s.items (outcomes rules keep s)
+abbrev pub share_outcomes : Rules → Bool → Share → List ItemOutcome
+share_outcomes rules keep s = item_outcomes s.items (outcomes rules keep s)
 
-abbrev pub is_left : Outcome → Bool
-is_left Outcome.Applied = false
-is_left (Outcome.Parked why) = true
-is_left (Outcome.Dropped why) = true
+abbrev pub is_unapplied : Outcome → Bool
+is_unapplied Outcome.Applied = false
+is_unapplied (Outcome.Parked why) = true
+is_unapplied (Outcome.Dropped why) = true
 
 -- why an item is not applied
-abbrev pub left_text : Outcome → Line
-left_text Outcome.Applied = []
-left_text (Outcome.Parked why) = why_text why
-left_text (Outcome.Dropped why) = why_text why
+abbrev pub unapplied_text : Outcome → Line
+unapplied_text Outcome.Applied = []
+unapplied_text (Outcome.Parked why) = why_text why
+unapplied_text (Outcome.Dropped why) = why_text why
 
 -- the first item that is not applied, by sequence, then in the order of the sequence's items
-abbrev pub first_left : Rules → Bool → List Share → Option Told
-first_left rules keep shares = find (λ t. is_left t.outcome) (flat_map (told_share rules keep) shares)
+abbrev pub first_unapplied : Rules → Bool → List Share → Option ItemOutcome
+first_unapplied rules keep shares = find (λ t. is_unapplied t.outcome) (flat_map (share_outcomes rules keep) shares)
 
 -- ---- commit
 
@@ -116,14 +116,14 @@ items_of_batch m b = batch_items (whole_at m.setting b.processor) m.setting.shee
 abbrev pub shares_in : State → Batch → List Share
 shares_in m b = shares_of (whole_at m.setting b.processor) (projection_at m.setting b.processor) m.setting.sheet.chain b (events m.cells)
 
-abbrev pub committed : State → ℕ → Batch → TokenRow → Option Told → Answer
-committed m actor b r (Some t) = answer m (Reply.NotApplied t.item.item.name (left_text t.outcome))
+abbrev pub committed : State → ℕ → Batch → TokenRow → Option ItemOutcome → Answer
+committed m actor b r (Some t) = answer m (Reply.NotApplied t.item.item.name (unapplied_text t.outcome))
 committed m actor b r None = answer (installed m actor b r) (Reply.Committed (length (items_of_batch m b)) 0 0)
 
 abbrev pub commit_over : State → ℕ → Batch → Option TokenRow → Answer
 commit_over m actor b None = answer (with_batch actor None m) (Reply.Stale b.fence None)
 commit_over m actor b (Some r) =
-    if r.fence == b.fence then committed m actor b r (first_left (projection_at m.setting b.processor) true (shares_in m b))
+    if r.fence == b.fence then committed m actor b r (first_unapplied (projection_at m.setting b.processor) true (shares_in m b))
     else answer (with_batch actor None m) (Reply.Stale b.fence (Some r.fence))
 
 abbrev pub commit_batch : State → ℕ → Option Batch → Answer

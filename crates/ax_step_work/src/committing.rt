@@ -7,11 +7,11 @@ ghost use Rattle.ax_world.specs.WorldTables.{state_of, rows_at};
 ghost use Rattle.ax_world.specs.Moves.{IsMove};
 ghost use Rattle.ax_world.specs.declared.edit.Edit.{Edit};
 ghost use Rattle.ax_journal.specs.declared.reply.Reply.{Reply};
-ghost use Rattle.ax_step_work.specs.Working.{commit, commit_batch, left_text};
+ghost use Rattle.ax_step_work.specs.Working.{commit, commit_batch, unapplied_text};
 ghost use Rattle.ax_step_work.specs.Installing.{IsCleared, stored};
 
 use crate::installing::{install, store_batch};
-use crate::tally::first_left;
+use crate::tally::first_unapplied;
 use ax_basis::{Basis, BasisItem, Handled, Outcome, handle};
 use ax_claims::Rows;
 use ax_journal::Reply;
@@ -122,7 +122,7 @@ fn commit_rows(
     world.facts();
     let _ = world.sheet().chain().parts();
     let _ = world.table(handled.basis().processor).len();
-    match first_left(handled) {
+    match first_unapplied(handled) {
         Some((item, outcome)) => {
             drop(rows);
             drop(desk);
@@ -143,15 +143,15 @@ fn give_up(alloc: Global, actor: u32, desk: Desk, reply: Reply) -> Result<Move, 
 
 /// The reply that an item does not apply. Nothing changes, and the batch stays.
 fn not_applied(alloc: Global, item: &BasisItem, outcome: &Outcome) -> Result<Move, NoMemory>
-    ensures { IfOk result (λ made. made ≡ record { edits = []; reply = Reply.NotApplied item.now.item.name (left_text outcome.now); report = [] }) }
+    ensures { IfOk result (λ made. made ≡ record { edits = []; reply = Reply.NotApplied item.now.item.name (unapplied_text outcome.now); report = [] }) }
 {
     let item = item.item.name.copy(alloc)?;
-    let why = left_text(alloc, outcome)?;
+    let why = unapplied_text(alloc, outcome)?;
     Ok(Move::without_edits(alloc, Reply::NotApplied { item, why }))
 }
 
-fn left_text(alloc: Global, outcome: &Outcome) -> Result<Line, NoMemory>
-    ensures { IfOk result (λ text. text ≡ left_text outcome.now) }
+fn unapplied_text(alloc: Global, outcome: &Outcome) -> Result<Line, NoMemory>
+    ensures { IfOk result (λ text. text ≡ unapplied_text outcome.now) }
 {
     match outcome {
         Outcome::Applied => Ok(Line::new(alloc)),

@@ -1,10 +1,7 @@
-ghost use Rattle.std.specs.Prelude.{◌≡◌, ◌≤◌, ◌++◌, flat_map, length, map, IfOk, OnOk};
+ghost use Rattle.std.specs.Prelude.{◌≡◌, ◌≤◌, ◌++◌, length, IfOk, OnOk};
 ghost use Rattle.ax_log.specs.Order.{max_cells};
 ghost use Rattle.ax_tokens.specs.Nodes.{token_of};
-ghost use Rattle.ax_projections.specs.Items.{placed_items};
-ghost use Rattle.ax_state.specs.Batches.{basis_item, is_fetched};
-ghost use Rattle.ax_step_work.specs.Reach.{events_at};
-ghost use Rattle.ax_step_work.specs.Sharing.{event_items, items_taken, taken};
+ghost use Rattle.ax_step_work.specs.Sharing.{cell_items, event_items, items_taken, taken};
 
 use crate::bound::is_fetched;
 use crate::reach::{high_of, next_open};
@@ -49,7 +46,7 @@ fn push_cell(
     cell: &Cell,
     items: &mut Vec<BasisItem>,
 ) -> Result<(), NoMemory>
-    ensures { OnOk result (items.new.items ≡ items.old.items ++ map (basis_item None (taken segment (token_of old.now) (token_of old.now))) (flat_map (placed_items chain.now) (events_at (is_fetched None segment (token_of old.now) (token_of new.now)) index cell.now))) }
+    ensures { OnOk result (items.new.items ≡ items.old.items ++ cell_items chain.now (taken segment (token_of old.now) (token_of new.now)) index cell.now) }
 {
     if let Cell::Event(event) = cell {
         if is_fetched(None, segment, old, new, index, event) {

@@ -1,12 +1,12 @@
 ghost use Rattle.std.specs.Prelude.{◌≡◌, ◌≤◌, find, length, option_map};
-ghost use Rattle.ax_step_work.specs.Working.{first_left, is_left, told};
+ghost use Rattle.ax_step_work.specs.Working.{first_unapplied, is_unapplied, item_outcomes};
 ghost use Rattle.ax_step_work.specs.Installing.{share_items, tell};
 
 use ax_basis::{BasisItem, Handled, Outcome, Share};
 
 /// The first item that is not applied, by sequence, then in the order of the sequence's items, with its outcome.
-pub(crate) fn first_left(handled: &Handled) -> Option<(&BasisItem, &Outcome)>
-    ensures { option_map (λ left. tell left.0.now left.1.now) result ≡ first_left handled.now.rules handled.now.basis.keep handled.now.basis.shares }
+pub(crate) fn first_unapplied(handled: &Handled) -> Option<(&BasisItem, &Outcome)>
+    ensures { option_map (λ left. tell left.0.now left.1.now) result ≡ first_unapplied handled.now.rules handled.now.basis.keep handled.now.basis.shares }
 {
     let shares = handled.basis().shares.parts();
     let results = handled.results().parts();
@@ -24,21 +24,21 @@ fn left_among<'a>(
     items: &'a [BasisItem],
     outcomes: &'a [Outcome],
 ) -> Option<(&'a BasisItem, &'a Outcome)>
-    ensures { option_map (λ left. tell left.0.now left.1.now) result ≡ find (λ t. is_left t.outcome) (told items.now outcomes.now) }
+    ensures { option_map (λ left. tell left.0.now left.1.now) result ≡ find (λ t. is_unapplied t.outcome) (item_outcomes items.now outcomes.now) }
 {
     for (place, item) in items.iter().enumerate() {
         let Some(outcome) = outcomes.get(place) else {
             return None;
         };
-        if is_left(outcome) {
+        if is_unapplied(outcome) {
             return Some((item, outcome));
         }
     }
     None
 }
 
-fn is_left(outcome: &Outcome) -> bool
-    ensures { result ≡ is_left outcome.now }
+fn is_unapplied(outcome: &Outcome) -> bool
+    ensures { result ≡ is_unapplied outcome.now }
 {
     match outcome {
         Outcome::Applied => false,

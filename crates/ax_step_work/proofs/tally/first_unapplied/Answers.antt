@@ -3,7 +3,7 @@ use Rattle.ax_basis.specs.Basis.{Basis, Share}
 use Rattle.ax_step_work.specs.Installing.{tell}
 use Rattle.ax_step_work.proofs.Tallied.{left-found, left-passed}
 use Rattle.ax_basis.specs.declared.outcome.ShareResult.{ShareResult}
-use Rattle.ax_step_work.proofs.tally.first_left.Goals as goal
+use Rattle.ax_step_work.proofs.tally.first_unapplied.Goals as goal
 
 pub returns-in-Some : goal.returns-in-Some
 returns-in-Some c =

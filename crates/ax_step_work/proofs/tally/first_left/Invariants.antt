@@ -1,7 +1,0 @@
--- no item of the shares so far is left
-use Rattle.std.proofs.Common.{◌≡◌, drop}
-use Rattle.ax_step_work.specs.Working.{first_left}
-use Rattle.ax_step_work.proofs.tally.first_left.Given as goal
-
-abbrev pub invariant-loop-place : goal.invariant-loop-place
-invariant-loop-place l = first_left l.handled.rules l.handled.basis.keep (drop l.place l.shares) ≡ first_left l.handled.rules l.handled.basis.keep l.shares
