@@ -1,0 +1,113 @@
+//! Cases of the token rows of a processor: claims, stores, splits, merges and resets, and their refusals.
+//!
+//! Each line of the input is a case, and the same line of the output is its answer: what was asked for, or `done`, or why a change
+//! was refused. Lines go on from what earlier lines have made, and `start SEGMENTS FENCE` begins anew.
+#![tactic(auto)]
+
+mod changes;
+mod shapes;
+mod written;
+
+use crate::written::{ask, ask_token};
+use ax_case_lines::{CaseFault, Cases, case_named, first_word, perform_all, u32_of, u64_of};
+use ax_claims::Rows;
+use std::alloc::Global;
+use std::{io, mem};
+
+/// What is done with token rows, or asked of them.
+#[derive(Clone, Copy)]
+pub(crate) enum ClaimCase {
+    Start,
+    Rows,
+    Token,
+    Claim,
+    Store,
+    Extend,
+    Release,
+    Split,
+    Merge,
+    Reset,
+}
+
+/// What a line's word asks for.
+fn named(word: &[u8]) -> Option<ClaimCase> {
+    case_named!(word;
+        b"start" => ClaimCase::Start,
+        b"rows" => ClaimCase::Rows,
+        b"token" => ClaimCase::Token,
+        b"claim" => ClaimCase::Claim,
+        b"store" => ClaimCase::Store,
+        b"extend" => ClaimCase::Extend,
+        b"release" => ClaimCase::Release,
+        b"split" => ClaimCase::Split,
+        b"merge" => ClaimCase::Merge,
+        b"reset" => ClaimCase::Reset
+    )
+}
+
+/// The rows that earlier lines have made.
+#[derive(Drop)]
+struct ClaimCases {
+    rows: Option<Rows>,
+}
+
+impl ClaimCases {
+    /// Puts the rows in the place of the earlier ones.
+    fn keep(&mut self, rows: Rows) {
+        drop(mem::replace(&mut self.rows, Some(rows)));
+    }
+}
+
+impl Cases for ClaimCases {
+    fn perform(
+        &mut self,
+        alloc: Global,
+        word: &[u8],
+        rest: &[u8],
+        out: &mut Vec<u8>,
+    ) -> Result<(), CaseFault> {
+        let case = named(word).ok_or(CaseFault::Line)?;
+        if let ClaimCase::Start = case {
+            self.keep(started(alloc, rest)?);
+            return Ok(());
+        }
+        let rows = self.rows.as_mut().ok_or(CaseFault::Line)?;
+        perform(alloc, rows, case, rest, out)
+    }
+}
+
+fn perform(
+    alloc: Global,
+    rows: &mut Rows,
+    case: ClaimCase,
+    rest: &[u8],
+    out: &mut Vec<u8>,
+) -> Result<(), CaseFault> {
+    match case {
+        ClaimCase::Claim => changes::claim(alloc, rows, rest, out),
+        ClaimCase::Store => changes::store(alloc, rows, rest, out),
+        ClaimCase::Extend => changes::extend(rows, rest, out),
+        ClaimCase::Release => changes::release(rows, rest, out),
+        ClaimCase::Split => shapes::split(alloc, rows, rest, out),
+        ClaimCase::Merge => shapes::merge(alloc, rows, rest, out),
+        ClaimCase::Reset => shapes::reset(alloc, rows, rest, out),
+        ClaimCase::Token => ask_token(alloc, rows, rest, out),
+        _ => ask(rows, rest, out),
+    }
+}
+
+/// The rows of `SEGMENTS FENCE`.
+fn started(alloc: Global, text: &[u8]) -> Result<Rows, CaseFault> {
+    let (segments, fence) = first_word(text);
+    let segments = u32_of(segments)?;
+    let fence = u64_of(fence)?;
+    if !segments.is_power_of_two() || segments > 65_536 || fence > u64::MAX - 65_536 {
+        return Err(CaseFault::Line);
+    }
+    Ok(Rows::start(alloc, segments, fence)?)
+}
+
+fn main(rt: HostRuntime) -> io::Result<()> {
+    let mut cases = ClaimCases { rows: None };
+    perform_all(&rt, &mut cases)
+}
