@@ -85,9 +85,7 @@ module _ (w : WorldTables) (p : ℕ) (h : IsWorld w) (declared : is_projection w
 
   -- an aggregate's kept row, or 0 and the first values
   pub started : (a : Name) → or_start rules (look_up a x.table) ≡ record { position = n a; row = row_or (start_row rules.fields) (row_now a) }
-  started a =
-      ◌∙◌ {b = or_start rules (row_if w.setting p (covered_events whole (portions x.processor_state.rows) es) x.processor_state a (n a))}
-      (ap (or_start rules) (kept-is a)) (by (nat_lt 0 (n a)) refl)
+  started a = ap (or_start rules) (kept-is a) ∙ by (nat_lt 0 (n a)) refl
     where
       by : (c : Bool) → nat_lt 0 (n a) ≡ c → or_start rules (if c then Some (record { position = n a; row = row_or (start_row rules.fields) (row_now a) }) else None) ≡ record { position = n a; row = row_or (start_row rules.fields) (row_now a) }
       by true e = refl

@@ -1,66 +1,27 @@
 -- The loops of a commit over shares and their results.
-use Rattle.std.proofs.Common.{◌≡◌, ℕ, zero, suc, ◌+◌, ◌<◌, Bool, true, false, List, [], ◌∷◌, ◌++◌, length, map, flat_map, drop, get_or, drop-cons, slice_get, Option, Some, None, find, if◌then◌else◌, append_assoc, refl, sym, ap, ◌∙◌, subst, arith}
+use Rattle.std.proofs.Common.{◌≡◌, ℕ, zero, suc, ◌+◌, ◌<◌, Bool, true, false, List, [], ◌∷◌, ◌++◌, length, map, flat_map, drop, get_or, drop-cons, Option, Some, None, find, if◌then◌else◌, refl, sym, ap, ◌∙◌, subst, arith}
 use Rattle.std.specs.List.{AllByRecursion}
-use Rattle.std.proofs.lemmas.List.{length-append, length-set}
+use Rattle.std.proofs.lemmas.List.{length-set}
 use Rattle.ax_values.specs.Grammar.{Name}
 use Rattle.ax_rules.specs.Expr.{Row}
 use Rattle.ax_rules.specs.Rules.{Rules}
 use Rattle.ax_basis.specs.Basis.{Share, member_names, member_rows}
 use Rattle.ax_basis.specs.Outcomes.{rows_after, share_result, outcomes}
 use Rattle.ax_step_work.specs.Working.{ItemOutcome, item_outcomes, share_outcomes, is_unapplied, first_unapplied}
-use Rattle.ax_step_work.specs.Installing.{IsSingle, share_items, share_entries, entries_after, row_edits}
+use Rattle.ax_step_work.specs.Installing.{IsSingle}
 use Rattle.ax_basis.specs.declared.item.BasisItem.{BasisItem}
 use Rattle.ax_basis.specs.declared.outcome.Outcome.{Outcome}
 use Rattle.ax_basis.specs.declared.outcome.ShareResult.{ShareResult}
-use Rattle.ax_projections.specs.Table.{Entry}
-use Rattle.ax_world.specs.declared.edit.Edit.{Edit}
 
 pub share-here : (ss : List Share) (i : ℕ) (s : Share) → i < length ss → s ≡ get_or ss i s → drop i ss ≡ s ∷ drop (i + 1) ss
 share-here ss i s lt e =
     let next : suc i ≡ i + 1 = omega arith in
     drop-cons ss i s lt ∙ ap (λ t. t ∷ drop (suc i) ss) (sym e) ∙ ap (λ n. s ∷ drop n ss) next
 
--- ---- how many items
-
-pub next_count : (ss : List Share) (i : ℕ) (s : Share) → i < length ss → s ≡ get_or ss i s → length (share_items (drop i ss)) ≡ length s.items + length (share_items (drop (i + 1) ss))
-next_count ss i s lt e = ap (λ ts. length (share_items ts)) (share-here ss i s lt e) ∙ length-append s.items (share_items (drop (i + 1) ss))
-
 -- ---- the first that is left
 
 abbrev pub left_of : List BasisItem → List Outcome → Option ItemOutcome
 left_of xs os = find (λ t. is_unapplied t.outcome) (item_outcomes xs os)
-
-told-suc : (xs : List BasisItem) (os : List Outcome) (i : ℕ) (x : BasisItem) (o : Outcome) → i < length xs → x ≡ get_or xs i x → slice_get os i ≡ Some o
-    → item_outcomes (drop i xs) (drop i os) ≡ record { item = x; outcome = o } ∷ item_outcomes (drop (suc i) xs) (drop (suc i) os)
-told-suc [] os i x o lt e h = absurd (omega arith)
-told-suc (y ∷ xs) [] i x o lt e h = absurd (cc)
-told-suc (y ∷ xs) (p ∷ os) zero x o lt e h = let is : p ≡ o = cc in ap (λ z. record { item = z; outcome = p } ∷ item_outcomes xs os) (sym e) ∙ ap (λ q. record { item = x; outcome = q } ∷ item_outcomes xs os) is
-told-suc (y ∷ xs) (p ∷ os) (suc i) x o lt e h = told-suc xs os i x o (omega arith) e h
-
-pub told-next : (xs : List BasisItem) (os : List Outcome) (i : ℕ) (x : BasisItem) (o : Outcome) → i < length xs → x ≡ get_or xs i x → slice_get os i ≡ Some o
-    → item_outcomes (drop i xs) (drop i os) ≡ record { item = x; outcome = o } ∷ item_outcomes (drop (i + 1) xs) (drop (i + 1) os)
-told-next xs os i x o lt e h = let next : suc i ≡ i + 1 = omega arith in told-suc xs os i x o lt e h ∙ ap (λ n. record { item = x; outcome = o } ∷ item_outcomes (drop n xs) (drop n os)) next
-
-pub told-end : (xs : List BasisItem) (os : List Outcome) (i : ℕ) → slice_get os i ≡ None → item_outcomes (drop i xs) (drop i os) ≡ []
-told-end xs [] zero h = none xs
-  where
-    none : (xs : List BasisItem) → item_outcomes xs [] ≡ []
-    none [] = refl
-    none (x ∷ xs) = refl
-told-end xs [] (suc i) h = none (drop (suc i) xs)
-  where
-    none : (xs : List BasisItem) → item_outcomes xs [] ≡ []
-    none [] = refl
-    none (x ∷ xs) = refl
-told-end xs (o ∷ os) zero h = absurd (cc)
-told-end [] (o ∷ os) (suc i) h = refl
-told-end (x ∷ xs) (o ∷ os) (suc i) h = told-end xs os i h
-
--- the item at a place is left, or is not
-pub left-here : (xs : List BasisItem) (os : List Outcome) (i : ℕ) (x : BasisItem) (o : Outcome) (c : Bool) → i < length xs → x ≡ get_or xs i x → slice_get os i ≡ Some o → is_unapplied o ≡ c
-    → left_of (drop i xs) (drop i os) ≡ (if c then Some (record { item = x; outcome = o }) else left_of (drop (i + 1) xs) (drop (i + 1) os))
-left-here xs os i x o c lt e h k =
-    ap (find (λ t. is_unapplied t.outcome)) (told-next xs os i x o lt e h) ∙ ap (λ c. if c then Some (record { item = x; outcome = o }) else left_of (drop (i + 1) xs) (drop (i + 1) os)) k
 
 abbrev pub first_some : Option ItemOutcome → Option ItemOutcome → Option ItemOutcome
 first_some None later = later
@@ -129,19 +90,6 @@ one-row (r ∷ s ∷ rs) h = absurd (omega arith)
 pub single-row : (rules : Rules) (keep : Bool) (s : Share) → IsSingle s → (row : Row) × ((share_result rules keep s).rows ≡ row ∷ [])
 single-row rules keep s h =
     one-row (share_result rules keep s).rows (length-rows rules (member_names s.members) s.items (outcomes rules keep s) (member_rows s.members) ∙ ap (λ ms. length (member_rows ms)) h.1)
-
-pub edits-append : (p : ℕ) (es fs : List Entry) → row_edits p (es ++ fs) ≡ row_edits p es ++ row_edits p fs
-edits-append p [] fs = refl
-edits-append p (e ∷ es) fs = ap (λ xs. Edit.PutRow p e.name e.value ∷ xs) (edits-append p es fs)
-
--- one share more
-pub next-rows : (front all new : List Edit) (p : ℕ) (rules : Rules) (keep : Bool) (ss : List Share) (i : ℕ) (s : Share) → i < length ss → s ≡ get_or ss i s → front ++ row_edits p (entries_after rules keep (drop i ss)) ≡ all
-    → new ≡ front ++ row_edits p (share_entries rules keep s) → new ++ row_edits p (entries_after rules keep (drop (i + 1) ss)) ≡ all
-next-rows front all new p rules keep ss i s lt e same pushed =
-    ap (λ es. es ++ row_edits p (entries_after rules keep (drop (i + 1) ss))) pushed
-    ∙ append_assoc front (row_edits p (share_entries rules keep s)) (row_edits p (entries_after rules keep (drop (i + 1) ss)))
-    ∙ ap (λ es. front ++ es) (sym (edits-append p (share_entries rules keep s) (entries_after rules keep (drop (i + 1) ss))))
-    ∙ ap (λ ts. front ++ row_edits p (entries_after rules keep ts)) (sym (share-here ss i s lt e)) ∙ same
 
 -- its row stands in its place
 pub row-there : (rules : Rules) (keep : Bool) (all ss : List Share) (rs : List ShareResult) (shares_are : ss ≡ all) (results_are : rs ≡ map (share_result rules keep) all) (i : ℕ) (s : Share) (made : ShareResult)

@@ -137,8 +137,13 @@ fn give_up(alloc: Global, actor: u32, desk: Desk, reply: Reply) -> Result<Move, 
     ensures { IfOk result (λ made. made ≡ record { edits = Edit.SetDesk actor desk ∷ []; reply = reply; report = [] }) }
 {
     let mut edits = Edits::new(alloc);
-    edits.push(Edit::SetDesk { actor, desk })?;
-    Ok(Move::of(alloc, edits, reply))
+    match edits.push(Edit::SetDesk { actor, desk }) {
+        Ok(()) => Ok(Move::of(alloc, edits, reply)),
+        Err(error) => {
+            drop(reply);
+            Err(error)
+        }
+    }
 }
 
 /// The reply that an item does not apply. Nothing changes, and the batch stays.

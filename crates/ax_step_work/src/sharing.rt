@@ -1,11 +1,13 @@
 ghost use Rattle.std.specs.Prelude.{◌≡◌, ◌<◌, ◌++◌, ◌∷◌, [], List, length, IsTrue, IfOk, OnOk};
 ghost use Rattle.ax_values.specs.Words.{rises};
+ghost use Rattle.ax_projections.specs.Table.{look_up};
+ghost use Rattle.ax_projections.specs.Rebuild.{or_start};
 ghost use Rattle.ax_basis.specs.Basis.{is_of_member};
 ghost use Rattle.ax_basis.specs.declared.item.BasisItem.{BasisItem};
 ghost use Rattle.ax_step_work.specs.Sharing.{IsPlaceOf, member_read, share_below, shares_read, single};
 
 use ax_basis::{BasisItem, BasisItems, Member, Members, Share, Shares};
-use ax_projections::Table;
+use ax_projections::{Positioned, Table};
 use ax_rules::Rules;
 use ax_values::{Duplicate, Marks, Name, NoMemory, Seen};
 use std::alloc::Global;
@@ -90,10 +92,7 @@ fn read_member(
 ) -> Result<Member, NoMemory>
     ensures { IfOk result (λ member. member ≡ member_read rules.now kept.now.entries aggregate.now) }
 {
-    let (position, row) = match kept.get(aggregate) {
-        Some(value) => (value.position, value.row.copy(alloc)?),
-        None => (0, rules.start(alloc)?),
-    };
+    let Positioned { position, row } = read_row(alloc, rules, kept, aggregate)?;
     let aggregate = aggregate.copy(alloc)?;
     let marks = Marks::of(Vec::new(alloc));
     let seen = Seen {
@@ -106,4 +105,22 @@ fn read_member(
         seen,
         row,
     })
+}
+
+/// What is kept of an aggregate, or 0 and the first values.
+fn read_row(
+    alloc: Global,
+    rules: &Rules,
+    kept: &Table,
+    aggregate: &Name,
+) -> Result<Positioned, NoMemory>
+    ensures { IfOk result (λ value. value ≡ or_start rules.now (look_up aggregate.now kept.now.entries)) }
+{
+    match kept.get(aggregate) {
+        Some(value) => value.copy(alloc),
+        None => {
+            let row = rules.start(alloc)?;
+            Ok(Positioned { position: 0, row })
+        }
+    }
 }

@@ -18,8 +18,8 @@ use std::alloc::Global;
 ///
 /// A commit is for the batch on the desk; NoBatch comes where there is none. Stale comes where the batch's row is gone or
 /// has another fence: the batch is given up. NotApplied, with the item and the cause, comes for the first item of the batch
-/// that does not apply: this changes nothing. Else the reply is Committed, with the number of items: the rows are those
-/// after the items, the segment's token is the batch's, at the clock's time, and the desk holds no batch.
+/// that does not apply, by sequence: this changes nothing. Else the reply is Committed, with the number of items: the rows
+/// are those after the items, the segment's token is the batch's, at the clock's time, and the desk holds no batch.
 ///
 /// The world itself stays: the edits of the move are for `World::prepare` and `World::install`. Want of memory is the only
 /// error.

@@ -48,7 +48,6 @@ fn is_unapplied(outcome: &Outcome) -> bool
 }
 
 /// How many items the shares have.
-#[tactic(auto, using(crate::proofs::Tallied::next_count))]
 pub(crate) fn item_count(shares: &[Share]) -> u32
     requires { length (share_items shares.now) ≤ 1600000 }
     ensures { result ≡ length (share_items shares.now) }
