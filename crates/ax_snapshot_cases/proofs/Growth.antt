@@ -29,7 +29,8 @@ own true e xs ys zs h = ap (λ (l : List Stored). e ∷ l) h
 own false e xs ys zs h = h
 
 -- the events of cells with one more at the end
-one-more : (a : Name) (k : ℕ) (cells : List Cell) (c : Cell) → filter (is_of a) (events_from k (cells ++ c ∷ [])) ≡ filter (is_of a) (events_from k cells) ++ filter (is_of a) (events_from (k + length cells) (c ∷ []))
+one-more : (a : Name) (k : ℕ) (cells : List Cell) (c : Cell)
+    → filter (is_of a) (events_from k (cells ++ c ∷ [])) ≡ filter (is_of a) (events_from k cells) ++ filter (is_of a) (events_from (k + length cells) (c ∷ []))
 one-more a k [] c = let e : k + 0 ≡ k = omega arith in ap (λ (i : ℕ). filter (is_of a) (events_from i (c ∷ []))) (sym e)
 one-more a k (Cell.Event r ∷ cells) c =
     let e : suc k + length cells ≡ k + suc (length cells) = omega arith in
@@ -64,7 +65,8 @@ grows_put cells new i c at n = subst (λ (cs : List Cell). Grows cells cs) (sym 
     by false h = absurd (cc)
 
 -- the snapshot of all events is one of the first events of a log that has grown
-pub still : (rules : Rules) (chain : List Upcaster) (revision : ℕ) (a : Name) (old new : List Cell) (o : Option Snapshot) → Grows old new → o ≡ snapshot_of rules chain revision a old → IfSome o (IsSnapshotOf rules chain a new)
+pub still : (rules : Rules) (chain : List Upcaster) (revision : ℕ) (a : Name) (old new : List Cell) (o : Option Snapshot)
+    → Grows old new → o ≡ snapshot_of rules chain revision a old → IfSome o (IsSnapshotOf rules chain a new)
 still rules chain revision a old new o g e = subst (λ (o : Option Snapshot). IfSome o (IsSnapshotOf rules chain a new)) (sym e) (by (length_of a old == 0))
   where
     by : (b : Bool) → IfSome (if b then None else Some (record { aggregate = a; revision = revision; events = length_of a old; state = state_of rules chain a old })) (IsSnapshotOf rules chain a new)
