@@ -15,11 +15,13 @@ use std::test::Fail;
 fn share(alloc: Global, sequence: Name) -> Share
     ensures { result.members ≡ [] }
 {
+    let members = Members::new(alloc);
+    let items = BasisItems::new(alloc);
     Share {
         sequence,
         parked: false,
-        members: Members::new(alloc),
-        items: BasisItems::new(alloc),
+        members,
+        items,
     }
 }
 
