@@ -5,18 +5,23 @@ ghost use Rattle.ax_rules.specs.Rules.{applied};
 ghost use Rattle.ax_basis.specs.Basis.{is_member, is_of_member, member_below, member_names, member_rows, members_fit, row_fits, shares_fit};
 ghost use Rattle.ax_basis.specs.Outcomes.{failed, name_place, outcomes_of, results_of, row_in_place, rows_after, share_result, tried};
 
+use crate::lone::lone_result;
 use crate::{Basis, BasisItem, Member, Outcome, Outcomes, Results, RowList, Share, ShareResult};
 use ax_rules::{Applied, Row, Rules, Why};
 use ax_values::{Duplicate, Name, NoMemory};
 use std::alloc::Global;
 
-/// What is made of each share of a basis.
-pub(crate) fn results_of(alloc: Global, rules: &Rules, basis: &Basis) -> Result<Results, NoMemory>
+/// Handles a batch by rules: what they make of each share, in the order of the shares. Each item is tried on the row of its
+/// aggregate. Where its sequence was parked, each item is parked, too. Else an item fails where it is marked or the rules do
+/// not apply to it: under keep it is parked, and so is each later one of its sequence; else it is dropped, and the row stays.
+/// Want of memory is the only error.
+pub fn results_of(alloc: Global, rules: &Rules, basis: &Basis) -> Result<Results, NoMemory>
     requires { IsTrue (shares_fit rules.now basis.now.shares) }
     ensures { IfOk result (λ results. results ≡ results_of rules.now basis.now) }
 {
-    let mut results = Vec::new(alloc);
-    for share in basis.shares.parts() {
+    let shares = basis.shares.parts();
+    let mut results = Vec::with_capacity(alloc, shares.len())?;
+    for share in shares {
         results.push(share_result(alloc, rules, basis.keep, share)?)?;
     }
     Ok(Results::of(results))
@@ -33,6 +38,9 @@ fn share_result(
     ensures { IfOk result (λ made. made ≡ share_result rules.now keep share.now) }
 {
     let members = share.members.parts();
+    if let [member] = members {
+        return lone_result(alloc, rules, keep, share, member);
+    }
     let items = share.items.parts();
     let mut rows = member_rows(alloc, members)?;
     let outcomes = outcomes(alloc, rules, keep, share.parked, members, items, &mut rows)?;
@@ -94,7 +102,7 @@ fn outcomes(
 }
 
 /// The row after an item, or why it fails.
-fn tried(
+pub(crate) fn tried(
     alloc: Global,
     rules: &Rules,
     row: &Row,
@@ -114,7 +122,7 @@ fn tried(
 }
 
 /// The outcome of an item that fails: parked under keep, else dropped.
-fn failed(keep: bool, why: Why) -> Outcome
+pub(crate) fn failed(keep: bool, why: Why) -> Outcome
     ensures { result ≡ failed keep why }
 {
     if keep {

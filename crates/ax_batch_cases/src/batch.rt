@@ -1,7 +1,7 @@
 use crate::items::{item_from, member_of};
 use crate::shares::share_of;
 use ax_basis::{BasisItem, Member, Share};
-use ax_case_lines::{CaseFault, name_of};
+use ax_case_lines::{CaseFault, CaseLine, name_of};
 use std::alloc::Global;
 use std::mem;
 
@@ -23,30 +23,21 @@ impl Batch {
     }
 
     /// Adds the member `AGGREGATE NUMBER`.
-    pub(crate) fn add_member(&mut self, alloc: Global, text: &[u8]) -> Result<(), CaseFault> {
-        let member = member_of(alloc, text)?;
+    pub(crate) fn add_member(&mut self, line: &CaseLine) -> Result<(), CaseFault> {
+        let member = member_of(line.alloc, &line.text)?;
         Ok(self.members.push(member)?)
     }
 
     /// Adds the item `NAME KIND PAYLOAD`.
-    pub(crate) fn add_item(
-        &mut self,
-        alloc: Global,
-        marked: bool,
-        text: &[u8],
-    ) -> Result<(), CaseFault> {
-        let item = item_from(alloc, marked, text)?;
+    pub(crate) fn add_item(&mut self, marked: bool, line: &CaseLine) -> Result<(), CaseFault> {
+        let item = item_from(line.alloc, marked, &line.text)?;
         Ok(self.items.push(item)?)
     }
 
     /// Makes a share of the members and items, of the sequence that a text names.
-    pub(crate) fn add_share(
-        &mut self,
-        alloc: Global,
-        parked: bool,
-        text: &[u8],
-    ) -> Result<(), CaseFault> {
-        let sequence = name_of(alloc, text)?;
+    pub(crate) fn add_share(&mut self, parked: bool, line: &CaseLine) -> Result<(), CaseFault> {
+        let alloc = line.alloc;
+        let sequence = name_of(alloc, &line.text)?;
         let members = mem::replace(&mut self.members, Vec::new(alloc));
         let items = mem::replace(&mut self.items, Vec::new(alloc));
         let share = share_of(sequence, parked, members, items)?;

@@ -3,24 +3,24 @@ ghost use Rattle.std.specs.Prelude.{◌≡◌};
 use crate::batch::Batch;
 use crate::shares::are_fitting;
 use ax_basis::{Basis, Handled, Outcome, ShareResult, Shares, handle};
-use ax_case_lines::CaseFault;
+use ax_case_lines::{CaseFault, CaseLine, write_ints};
 use ax_rules::{Row, Rules};
 use ax_segments::root;
 use ax_tokens::Token;
-use ax_values::{NoMemory, copy_all, write_int};
+use ax_values::{NoMemory, copy_all};
 use std::alloc::Global;
 
 /// Handles the batch by the rules under a policy, and shows what becomes of it.
 pub(crate) fn show(
-    alloc: Global,
     rules: &Rules,
     keep: bool,
     batch: &Batch,
-    out: &mut Vec<u8>,
+    line: &mut CaseLine,
 ) -> Result<(), CaseFault> {
+    let alloc = line.alloc;
     let shares = Shares::of(copy_all(alloc, &batch.shares)?);
     let handled = handled_by(alloc, rules, basis(alloc, keep, shares))?;
-    Ok(write_results(handled.results().parts(), out)?)
+    Ok(write_results(handled.results().parts(), &mut line.out)?)
 }
 
 fn basis(alloc: Global, keep: bool, shares: Shares) -> Basis
@@ -81,15 +81,7 @@ fn write_outcome(outcome: &Outcome, out: &mut Vec<u8>) -> Result<(), NoMemory> {
 fn write_rows(rows: &[Row], out: &mut Vec<u8>) -> Result<(), NoMemory> {
     out.extend_from_slice(b"rows")?;
     for row in rows {
-        write_row(row, out)?;
-    }
-    Ok(())
-}
-
-fn write_row(row: &Row, out: &mut Vec<u8>) -> Result<(), NoMemory> {
-    for number in row.parts() {
-        out.push(b' ')?;
-        write_int(*number, out)?;
+        write_ints(row.parts(), out)?;
     }
     Ok(())
 }

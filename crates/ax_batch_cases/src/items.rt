@@ -1,7 +1,7 @@
 use ax_basis::{BasisItem, Member};
-use ax_case_lines::{CaseFault, first_word, int_of, item_of, name_of, payload_of};
+use ax_case_lines::{CaseFault, first_word, int_of, name_of, whole_item_of};
 use ax_rules::Row;
-use ax_values::{Item, Marks, Seen};
+use ax_values::{Marks, Seen};
 use std::alloc::Global;
 
 /// The member `AGGREGATE NUMBER`, whose row has that one number.
@@ -24,18 +24,8 @@ pub(crate) fn member_of(alloc: Global, text: &[u8]) -> Result<Member, CaseFault>
 
 /// The item `NAME KIND PAYLOAD`.
 pub(crate) fn item_from(alloc: Global, marked: bool, text: &[u8]) -> Result<BasisItem, CaseFault> {
-    let (name, rest) = first_word(text);
-    let (kind, payload) = first_word(rest);
-    let name = item_of(alloc, name)?;
-    let kind = name_of(alloc, kind)?;
-    let payload = payload_of(alloc, payload)?;
-    let item = Item {
-        name,
-        kind,
-        payload,
-    };
     Ok(BasisItem {
-        item,
+        item: whole_item_of(alloc, text)?,
         index: 0,
         marked,
         replayed: false,

@@ -10,7 +10,7 @@ mod items;
 mod shares;
 
 use crate::batch::Batch;
-use ax_case_lines::{CaseFault, Cases, case_named, name_of, perform_all};
+use ax_case_lines::{CaseFault, CaseLine, Cases, case_named, name_of, perform_all};
 use ax_rules::Rules;
 use ax_sheet::Sheet;
 use std::alloc::Global;
@@ -67,34 +67,31 @@ impl BatchCases {
 }
 
 impl Cases for BatchCases {
-    fn perform(
-        &mut self,
-        alloc: Global,
-        word: &[u8],
-        rest: &[u8],
-        out: &mut Vec<u8>,
-    ) -> Result<(), CaseFault> {
+    fn start(alloc: Global) -> BatchCases {
+        BatchCases {
+            sheet: Sheet::cards(alloc).ok(),
+            batch: Batch::new(alloc),
+        }
+    }
+
+    fn perform(&mut self, word: &[u8], line: &mut CaseLine) -> Result<(), CaseFault> {
         let batch = &mut self.batch;
         match named(word).ok_or(CaseFault::Line)? {
             BatchCase::New => {
-                self.begin(alloc);
+                self.begin(line.alloc);
                 Ok(())
             }
-            BatchCase::Member => batch.add_member(alloc, rest),
-            BatchCase::Item => batch.add_item(alloc, false, rest),
-            BatchCase::Marked => batch.add_item(alloc, true, rest),
-            BatchCase::Share => batch.add_share(alloc, false, rest),
-            BatchCase::ParkedShare => batch.add_share(alloc, true, rest),
-            BatchCase::Keep => handled::show(alloc, self.rules(alloc)?, true, &self.batch, out),
-            BatchCase::Drop => handled::show(alloc, self.rules(alloc)?, false, &self.batch, out),
+            BatchCase::Member => batch.add_member(line),
+            BatchCase::Item => batch.add_item(false, line),
+            BatchCase::Marked => batch.add_item(true, line),
+            BatchCase::Share => batch.add_share(false, line),
+            BatchCase::ParkedShare => batch.add_share(true, line),
+            BatchCase::Keep => handled::show(self.rules(line.alloc)?, true, &self.batch, line),
+            BatchCase::Drop => handled::show(self.rules(line.alloc)?, false, &self.batch, line),
         }
     }
 }
 
 fn main(rt: HostRuntime) -> io::Result<()> {
-    let alloc = rt.alloc();
-    let sheet = Sheet::cards(alloc).ok();
-    let batch = Batch::new(alloc);
-    let mut cases = BatchCases { sheet, batch };
-    perform_all(&rt, &mut cases)
+    perform_all::<HostRuntime, BatchCases>(&rt)
 }

@@ -9,10 +9,14 @@ mod lines;
 mod parts;
 #[cfg(test)]
 mod tests;
+mod words;
 
 pub use fault::CaseFault;
-pub use lines::{Cases, perform_all};
-pub use parts::{first_word, int_of, item_of, name_of, payload_of, u32_of, u64_of, write_either};
+pub use lines::{CaseLine, Cases, perform_all};
+pub use parts::{
+    int_of, item_of, name_of, payload_of, u32_of, u64_of, whole_item_of, write_either, write_ints,
+};
+pub use words::{first_word, four_words, three_words, two_words};
 
 /// Some of the case whose text the word is; None comes exactly where there is no such text. It stands last in a function.
 #[macro_export]

@@ -3,47 +3,51 @@ use std::alloc::{AllocError, Global};
 use std::io;
 use std::io::{BufRead, BufReader, Write};
 
+/// What a line asks for after its first word, and where its answer goes.
+#[derive(Drop)]
+pub struct CaseLine {
+    pub alloc: Global,
+    /// What follows the first word, in which each byte stands for itself.
+    pub text: Vec<u8>,
+    /// What is printed for all lines so far.
+    pub out: Vec<u8>,
+}
+
 /// Cases over a state of their own.
 pub trait Cases {
-    /// Performs the case of a word and what follows it, and writes the answer, on one line.
-    fn perform(
-        &mut self,
-        alloc: Global,
-        word: &[u8],
-        rest: &[u8],
-        out: &mut Vec<u8>,
-    ) -> Result<(), CaseFault>;
+    /// The state before the first line.
+    fn start(alloc: Global) -> Self;
+
+    /// Performs the case of a line's first word, and adds the answer, on one line. A fault is written after what was added.
+    fn perform(&mut self, word: &[u8], line: &mut CaseLine) -> Result<(), CaseFault>;
 }
 
-/// Performs the lines of the input one after another, and prints a line for each.
-pub fn perform_all<R: Input + Print + AllocGlobal, C: Cases>(
-    rt: &R,
-    cases: &mut C,
-) -> io::Result<()> {
+/// Performs the lines of the input one after another, from the state before the first one, and prints a line for each.
+pub fn perform_all<R: Input + Print + AllocGlobal, C: Cases + Drop>(rt: &R) -> io::Result<()> {
     let alloc = rt.alloc();
-    let mut out = Vec::new(alloc);
+    let mut cases = C::start(alloc);
+    let mut answered = CaseLine {
+        alloc,
+        text: Vec::new(alloc),
+        out: Vec::new(alloc),
+    };
     for line in BufReader::new(alloc, rt.reader())?.lines(alloc) {
-        answer(alloc, cases, line?.as_bytes(), &mut out)?;
-        out.push(b'\n')?;
+        answer(&mut cases, line?.as_bytes(), &mut answered)?;
+        answered.out.push(b'\n')?;
     }
-    io::writer(rt).write_all(&out)
+    io::writer(rt).write_all(&answered.out)
 }
 
-fn answer<C: Cases>(
-    alloc: Global,
-    cases: &mut C,
-    line: &[u8],
-    out: &mut Vec<u8>,
-) -> Result<(), AllocError> {
+fn answer<C: Cases>(cases: &mut C, line: &[u8], answered: &mut CaseLine) -> Result<(), AllocError> {
     if line.is_empty() || line.starts_with(b"#") || line.starts_with(b"==") {
-        return out.extend_from_slice(line);
+        return answered.out.extend_from_slice(line);
     }
     let (word, rest) = first_word(line);
-    let rest = with_bytes(alloc, rest)?;
-    match cases.perform(alloc, word, &rest, out) {
+    answered.text = with_bytes(answered.alloc, rest)?;
+    match cases.perform(word, answered) {
         Ok(()) => Ok(()),
-        Err(CaseFault::Line) => out.extend_from_slice(b"no such case"),
-        Err(CaseFault::Memory) => out.extend_from_slice(b"no memory"),
+        Err(CaseFault::Line) => answered.out.extend_from_slice(b"no such case"),
+        Err(CaseFault::Memory) => answered.out.extend_from_slice(b"no memory"),
     }
 }
 

@@ -1,19 +1,14 @@
 ghost use Rattle.std.specs.Prelude.{◌≡◌, ◌++◌, None, Some, IfOk, IfErr, OnOk, if◌then◌else◌};
 ghost use Rattle.ax_values.specs.Grammar.{name_in, number_in, u32_in, int_in};
 ghost use Rattle.ax_values.specs.Readers.{item_in, payload_of};
+ghost use Rattle.ax_case_lines.specs.Parted.{ints_text, whole_item_in};
 ghost use Rattle.ax_case_lines.specs.declared.fault.CaseFault.TheVariants.{Line};
 
-use crate::CaseFault;
-use ax_values::{ItemName, Name, Payload, cut_at, read_int, read_number, read_u32};
+use crate::{CaseFault, two_words};
+use ax_values::{
+    Item, ItemName, Name, NoMemory, Payload, read_int, read_number, read_u32, write_int,
+};
 use std::alloc::Global;
-
-/// The first word of a text, and what follows it, which may be nothing.
-pub fn first_word(text: &[u8]) -> (&[u8], &[u8]) {
-    match cut_at(b' ', text) {
-        Some((word, rest)) => (word, rest),
-        None => (text, &text[text.len()..]),
-    }
-}
 
 /// Adds a word, or another one.
 pub fn write_either(
@@ -25,6 +20,17 @@ pub fn write_either(
     ensures { OnOk result (out.new.items ≡ out.old.items ++ (if holds then word.now else other.now)) }
 {
     out.extend_from_slice(if holds { word } else { other })?;
+    Ok(())
+}
+
+/// Adds the numbers, each after a space. Where memory is wanting, what was added before that stays.
+pub fn write_ints(numbers: &[i64], out: &mut Vec<u8>) -> Result<(), NoMemory>
+    ensures { OnOk result (out.new.items ≡ out.old.items ++ ints_text numbers.now) }
+{
+    for number in numbers {
+        out.push(b' ')?;
+        write_int(*number, out)?;
+    }
     Ok(())
 }
 
@@ -50,6 +56,22 @@ pub fn item_of(alloc: Global, text: &[u8]) -> Result<ItemName, CaseFault>
     ensures err { IfErr result (λ fault. fault ≡ Line → item_in text.now ≡ None) }
 {
     ItemName::read(alloc, text)?.ok_or(CaseFault::Line)
+}
+
+/// The item `NAME KIND PAYLOAD`, in which the payload may have spaces, or be absent.
+pub fn whole_item_of(alloc: Global, text: &[u8]) -> Result<Item, CaseFault>
+    ensures ok { IfOk result (λ read. whole_item_in text.now ≡ Some read) }
+    ensures err { IfErr result (λ fault. fault ≡ Line → whole_item_in text.now ≡ None) }
+{
+    let (name, kind, payload) = two_words(text);
+    let name = item_of(alloc, name)?;
+    let kind = name_of(alloc, kind)?;
+    let payload = payload_of(alloc, payload)?;
+    Ok(Item {
+        name,
+        kind,
+        payload,
+    })
 }
 
 /// The number of 32 bits that a text is.

@@ -1,4 +1,4 @@
-use ax_case_lines::{CaseFault, case_named, first_word, u32_of};
+use ax_case_lines::{CaseFault, CaseLine, case_named, first_word, two_words, u32_of};
 use ax_ports::{Change, Keeper, KeeperFault, MemoryKeeper, TableRow};
 use ax_values::{Line, line_words, write_number, write_u32};
 use std::alloc::Global;
@@ -42,21 +42,16 @@ impl Kept {
         }
     }
 
-    pub(crate) fn perform(
-        &mut self,
-        alloc: Global,
-        case: KeptCase,
-        rest: &[u8],
-        out: &mut Vec<u8>,
-    ) -> Result<(), CaseFault> {
+    pub(crate) fn perform(&mut self, case: KeptCase, line: &mut CaseLine) -> Result<(), CaseFault> {
+        let (alloc, text, out) = (line.alloc, line.text.as_slice(), &mut line.out);
         match case {
             KeptCase::Start => {
-                self.keeper = MemoryKeeper::new(Vec::new(alloc), numbers_of(alloc, rest)?);
+                self.keeper = MemoryKeeper::new(Vec::new(alloc), numbers_of(alloc, text)?);
                 self.changes.clear();
                 Ok(())
             }
-            KeptCase::Put => Ok(self.changes.push(put_of(alloc, rest)?)?),
-            KeptCase::Remove => Ok(self.changes.push(removal_of(alloc, rest)?)?),
+            KeptCase::Put => Ok(self.changes.push(put_of(alloc, text)?)?),
+            KeptCase::Remove => Ok(self.changes.push(removal_of(alloc, text)?)?),
             KeptCase::Commit => {
                 let answered = self.keeper.commit(alloc, &self.changes);
                 self.changes.clear();
@@ -121,8 +116,7 @@ fn table_of(text: &[u8]) -> Result<u8, CaseFault> {
 
 /// The put `TABLE KEY VALUE`.
 fn put_of(alloc: Global, text: &[u8]) -> Result<Change, CaseFault> {
-    let (table, rest) = first_word(text);
-    let (key, value) = first_word(rest);
+    let (table, key, value) = two_words(text);
     Ok(Change::Put(TableRow {
         table: table_of(table)?,
         key: line_of(alloc, key)?,

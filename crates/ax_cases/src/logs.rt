@@ -4,7 +4,9 @@ ghost use Rattle.ax_log.specs.Puts.{CanPut, CanPutAll, put_all};
 ghost use Rattle.ax_log.specs.Answers.{IsKeptFor};
 
 use crate::answers::write_none;
-use ax_case_lines::{CaseFault, case_named, first_word, name_of, u32_of, u64_of};
+use ax_case_lines::{
+    CaseFault, CaseLine, case_named, first_word, name_of, two_words, u32_of, u64_of,
+};
 use ax_log::{CellPut, CellPuts, Log, LogFault};
 use ax_values::{Cell, Duplicate, Name, NoMemory, Payload, Record, write_number, write_u32};
 use std::alloc::Global;
@@ -36,24 +38,19 @@ impl LogCase {
     }
 }
 
-pub(crate) fn perform(
-    alloc: Global,
-    log: &mut Log,
-    case: LogCase,
-    rest: &[u8],
-    out: &mut Vec<u8>,
-) -> Result<(), CaseFault> {
+pub(crate) fn perform(log: &mut Log, case: LogCase, line: &mut CaseLine) -> Result<(), CaseFault> {
+    let (alloc, text, out) = (line.alloc, line.text.as_slice(), &mut line.out);
     match case {
         LogCase::Start => {
             *log = Log::new(alloc);
             Ok(())
         }
-        LogCase::Reserve => reserve(alloc, log, rest, out),
-        LogCase::Append => append(alloc, log, rest, out),
-        LogCase::End => append_end(alloc, log, rest, out),
-        LogCase::Void => void(log, rest, out),
-        LogCase::Stream => write_stream(alloc, log, rest, out),
-        LogCase::Scan => write_cell(log.scan(u32_of(rest)?), out),
+        LogCase::Reserve => reserve(alloc, log, text, out),
+        LogCase::Append => append(alloc, log, text, out),
+        LogCase::End => append_end(alloc, log, text, out),
+        LogCase::Void => void(log, text, out),
+        LogCase::Stream => write_stream(alloc, log, text, out),
+        LogCase::Scan => write_cell(log.scan(u32_of(text)?), out),
     }
 }
 
@@ -98,8 +95,7 @@ fn number_at(log: &Log, index: u32, aggregate: &Name) -> Result<u32, CaseFault>
 
 /// Reserves cells: `AGGREGATE ACTOR COUNT`, at the time 0.
 fn reserve(alloc: Global, log: &mut Log, text: &[u8], out: &mut Vec<u8>) -> Result<(), CaseFault> {
-    let (aggregate, rest) = first_word(text);
-    let (actor, count) = first_word(rest);
+    let (aggregate, actor, count) = two_words(text);
     let count = u32_of(count)?;
     let aggregate = name_of(alloc, aggregate)?;
     let actor = name_of(alloc, actor)?;

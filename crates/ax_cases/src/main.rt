@@ -19,7 +19,7 @@ use crate::orders::OrderCase;
 use crate::segments::SegmentCase;
 use crate::tokens::TokenCase;
 use crate::words::WordCase;
-use ax_case_lines::{CaseFault, Cases, perform_all};
+use ax_case_lines::{CaseFault, CaseLine, Cases, perform_all};
 use ax_journal::Lines;
 use ax_log::Log;
 use ax_tokens::Token;
@@ -36,40 +36,36 @@ struct LowCases {
 }
 
 impl Cases for LowCases {
-    fn perform(
-        &mut self,
-        alloc: Global,
-        word: &[u8],
-        rest: &[u8],
-        out: &mut Vec<u8>,
-    ) -> Result<(), CaseFault> {
+    fn start(alloc: Global) -> LowCases {
+        LowCases {
+            token: Token::start(alloc),
+            log: Log::new(alloc),
+            kept: Kept::new(alloc),
+            report: Lines::new(alloc),
+        }
+    }
+
+    fn perform(&mut self, word: &[u8], line: &mut CaseLine) -> Result<(), CaseFault> {
         if let Some(case) = WordCase::named(word) {
-            return words::perform(alloc, case, rest, out);
+            return words::perform(case, line);
         }
         if let Some(case) = SegmentCase::named(word) {
-            return segments::perform(case, rest, out);
+            return segments::perform(case, line);
         }
         if let Some(case) = TokenCase::named(word) {
-            return tokens::perform(alloc, &mut self.token, case, rest, out);
+            return tokens::perform(&mut self.token, case, line);
         }
         if let Some(case) = LogCase::named(word) {
-            return logs::perform(alloc, &mut self.log, case, rest, out);
+            return logs::perform(&mut self.log, case, line);
         }
         if let Some(case) = KeptCase::named(word) {
-            return self.kept.perform(alloc, case, rest, out);
+            return self.kept.perform(case, line);
         }
         let case = OrderCase::named(word).ok_or(CaseFault::Line)?;
-        orders::perform(alloc, &mut self.report, case, rest, out)
+        orders::perform(&mut self.report, case, line)
     }
 }
 
 fn main(rt: HostRuntime) -> io::Result<()> {
-    let alloc = rt.alloc();
-    let mut cases = LowCases {
-        token: Token::start(alloc),
-        log: Log::new(alloc),
-        kept: Kept::new(alloc),
-        report: Lines::new(alloc),
-    };
-    perform_all(&rt, &mut cases)
+    perform_all::<HostRuntime, LowCases>(&rt)
 }

@@ -1,6 +1,6 @@
 use crate::answers::{write_none, write_whether};
 use crate::replies::reply_of;
-use ax_case_lines::{CaseFault, case_named, first_word, name_of};
+use ax_case_lines::{CaseFault, CaseLine, case_named, first_word, name_of};
 use ax_journal::{
     Arguments, Entry, Lines, Order, Orders, Reply, read_form, read_step, read_steps, write_entry,
     write_order, write_reply,
@@ -40,21 +40,20 @@ impl OrderCase {
 }
 
 pub(crate) fn perform(
-    alloc: Global,
     report: &mut Lines,
     case: OrderCase,
-    rest: &[u8],
-    out: &mut Vec<u8>,
+    line: &mut CaseLine,
 ) -> Result<(), CaseFault> {
+    let (alloc, text, out) = (line.alloc, line.text.as_slice(), &mut line.out);
     match case {
-        OrderCase::Order => write_read_order(alloc, rest, Arguments::Rising, out),
-        OrderCase::Sorted => write_read_order(alloc, rest, Arguments::AnyOrder, out),
-        OrderCase::Steps => write_steps(alloc, rest, out),
-        OrderCase::Built => write_built(alloc, rest, out),
-        OrderCase::Reply => write_given_reply(alloc, rest, out),
-        OrderCase::Code => write_code(alloc, rest, out),
-        OrderCase::Report => Ok(report.push(Line::of(rest.to_vec(alloc)?))?),
-        OrderCase::Entry => write_report(alloc, report, rest, out),
+        OrderCase::Order => write_read_order(alloc, text, Arguments::Rising, out),
+        OrderCase::Sorted => write_read_order(alloc, text, Arguments::AnyOrder, out),
+        OrderCase::Steps => write_steps(alloc, text, out),
+        OrderCase::Built => write_built(alloc, text, out),
+        OrderCase::Reply => write_given_reply(alloc, text, out),
+        OrderCase::Code => write_code(alloc, text, out),
+        OrderCase::Report => Ok(report.push(Line::of(text.to_vec(alloc)?))?),
+        OrderCase::Entry => write_report(alloc, report, text, out),
     }
 }
 

@@ -1,5 +1,5 @@
 use crate::answers::write_none;
-use ax_case_lines::{CaseFault, case_named, first_word};
+use ax_case_lines::{CaseFault, CaseLine, case_named, first_word};
 use ax_journal::{read_segment, write_segment};
 use ax_segments::{Segment, hash_of};
 use ax_values::write_u32;
@@ -33,17 +33,18 @@ pub(crate) fn segment_of(text: &[u8]) -> Result<Segment, CaseFault> {
     read_segment(text).ok_or(CaseFault::Line)
 }
 
-pub(crate) fn perform(case: SegmentCase, rest: &[u8], out: &mut Vec<u8>) -> Result<(), CaseFault> {
+pub(crate) fn perform(case: SegmentCase, line: &mut CaseLine) -> Result<(), CaseFault> {
+    let (text, out) = (line.text.as_slice(), &mut line.out);
     match case {
-        SegmentCase::Hash => Ok(write_u32(hash_of(rest), out)?),
-        SegmentCase::Quarter => Ok(write_u32(hash_of(rest) % 4, out)?),
-        SegmentCase::Segment => write_or_none(read_segment(rest), out),
-        SegmentCase::Split => write_halves(segment_of(rest)?, out),
+        SegmentCase::Hash => Ok(write_u32(hash_of(text), out)?),
+        SegmentCase::Quarter => Ok(write_u32(hash_of(text) % 4, out)?),
+        SegmentCase::Segment => write_or_none(read_segment(text), out),
+        SegmentCase::Split => write_halves(segment_of(text)?, out),
         SegmentCase::Merge => {
-            let (lower, upper) = first_word(rest);
+            let (lower, upper) = first_word(text);
             write_or_none(segment_of(lower)?.merged_with(segment_of(upper)?), out)
         }
-        SegmentCase::Partner => write_or_none(segment_of(rest)?.partner(), out),
+        SegmentCase::Partner => write_or_none(segment_of(text)?.partner(), out),
     }
 }
 

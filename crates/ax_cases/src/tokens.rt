@@ -1,6 +1,6 @@
 use crate::answers::{write_none, write_whether};
 use crate::segments::segment_of;
-use ax_case_lines::{CaseFault, case_named, first_word, name_of, u32_of};
+use ax_case_lines::{CaseFault, CaseLine, case_named, name_of, two_words, u32_of};
 use ax_segments::Segment;
 use ax_tokens::Token;
 use ax_values::{Cell, Duplicate, Payload, Record, Same, line_words};
@@ -47,26 +47,25 @@ impl TokenCase {
 }
 
 pub(crate) fn perform(
-    alloc: Global,
     token: &mut Token,
     case: TokenCase,
-    rest: &[u8],
-    out: &mut Vec<u8>,
+    line: &mut CaseLine,
 ) -> Result<(), CaseFault> {
+    let (alloc, text, out) = (line.alloc, line.text.as_slice(), &mut line.out);
     match case {
-        TokenCase::Read => read(alloc, token, rest, out),
-        TokenCase::Is => write_whether(is_token(alloc, token, rest)?, out),
-        TokenCase::At => write_whether(is_served_by(alloc, token, rest)?, out),
+        TokenCase::Read => read(alloc, token, text, out),
+        TokenCase::Is => write_whether(is_token(alloc, token, text)?, out),
+        TokenCase::At => write_whether(is_served_by(alloc, token, text)?, out),
         TokenCase::Covers => {
-            let (segment, hash, index) = place_of(rest)?;
+            let (segment, hash, index) = place_of(text)?;
             write_whether(token.covers(segment, hash, index), out)
         }
         TokenCase::Replays => {
-            let (segment, hash, index) = place_of(rest)?;
+            let (segment, hash, index) = place_of(text)?;
             write_whether(token.replayed(segment, hash, index), out)
         }
         change => {
-            *token = changed(alloc, token, change, rest)?;
+            *token = changed(alloc, token, change, text)?;
             Ok(())
         }
     }
@@ -181,14 +180,12 @@ fn united(alloc: Global, token: &Token, text: &[u8]) -> Result<Token, CaseFault>
 
 /// A segment, a hash and an index.
 fn place_of(text: &[u8]) -> Result<(Segment, u32, u32), CaseFault> {
-    let (segment, rest) = first_word(text);
-    let (hash, index) = first_word(rest);
+    let (segment, hash, index) = two_words(text);
     Ok((segment_of(segment)?, u32_of(hash)?, u32_of(index)?))
 }
 
 /// Whether the hash is served by the half of the text, in the token of a segment: `SEGMENT HASH TOKEN`.
 fn is_served_by(alloc: Global, token: &Token, text: &[u8]) -> Result<bool, CaseFault> {
-    let (segment, rest) = first_word(text);
-    let (hash, half) = first_word(rest);
+    let (segment, hash, half) = two_words(text);
     is_token(alloc, token.at(segment_of(segment)?, u32_of(hash)?), half)
 }

@@ -1,11 +1,21 @@
 use crate::answers::{write_none, write_whether};
-use ax_case_lines::{CaseFault, case_named, first_word, name_of, payload_of, u32_of};
+use ax_case_lines::{CaseFault, CaseLine, case_named, first_word, name_of, payload_of, u32_of};
 use ax_values::{
     Cell, Duplicate, ItemName, Mark, Name, Names, NoMemory, Payload, Record, Records, Same, Seen,
     Text, Value, event_id, line_words, read_int, read_number, read_u32, write_int, write_number,
     write_u32,
 };
 use std::alloc::Global;
+
+/// Adds what is written of a value that was read, or `none`. It stands last in a function.
+macro_rules! written_or_none {
+    ($read:expr, $out:expr; $value:ident => $written:expr) => {
+        match $read {
+            Some($value) => Ok($written?),
+            None => write_none($out),
+        }
+    };
+}
 
 /// What a word is read as.
 #[derive(Clone, Copy)]
@@ -49,58 +59,42 @@ impl WordCase {
     }
 }
 
-pub(crate) fn perform(
-    alloc: Global,
-    case: WordCase,
-    rest: &[u8],
-    out: &mut Vec<u8>,
-) -> Result<(), CaseFault> {
+pub(crate) fn perform(case: WordCase, line: &mut CaseLine) -> Result<(), CaseFault> {
+    let (alloc, text, out) = (line.alloc, line.text.as_slice(), &mut line.out);
     match case {
-        WordCase::Number => write_read_number(rest, out),
-        WordCase::Int => write_read_int(rest, out),
-        WordCase::U32 => write_read_u32(rest, out),
-        WordCase::Name => write_read_name(alloc, rest, out),
-        WordCase::Content => write_content(alloc, rest, out),
-        WordCase::Value => write_read_value(alloc, rest, out),
-        WordCase::Payload => write_read_payload(alloc, rest, out),
-        WordCase::Item => write_read_item(alloc, rest, out),
-        WordCase::Mark => write_read_mark(rest, out),
-        WordCase::Seen => write_read_seen(alloc, rest, out),
-        WordCase::Event => write_id(alloc, rest, out),
-        WordCase::Cell => write_copied(alloc, rest, out),
-        WordCase::Get => write_got(alloc, rest, out),
-        WordCase::Records => write_records(alloc, rest, out),
-        WordCase::Names => write_names(alloc, rest, out),
+        WordCase::Number => write_read_number(text, out),
+        WordCase::Int => write_read_int(text, out),
+        WordCase::U32 => write_read_u32(text, out),
+        WordCase::Name => write_read_name(alloc, text, out),
+        WordCase::Content => write_content(alloc, text, out),
+        WordCase::Value => write_read_value(alloc, text, out),
+        WordCase::Payload => write_read_payload(alloc, text, out),
+        WordCase::Item => write_read_item(alloc, text, out),
+        WordCase::Mark => write_read_mark(text, out),
+        WordCase::Seen => write_read_seen(alloc, text, out),
+        WordCase::Event => write_id(alloc, text, out),
+        WordCase::Cell => write_copied(alloc, text, out),
+        WordCase::Get => write_got(alloc, text, out),
+        WordCase::Records => write_records(alloc, text, out),
+        WordCase::Names => write_names(alloc, text, out),
     }
 }
 
 fn write_read_number(text: &[u8], out: &mut Vec<u8>) -> Result<(), CaseFault> {
-    match read_number(text) {
-        Some(number) => Ok(write_number(number, out)?),
-        None => write_none(out),
-    }
+    written_or_none!(read_number(text), out; number => write_number(number, out))
 }
 
 fn write_read_int(text: &[u8], out: &mut Vec<u8>) -> Result<(), CaseFault> {
-    match read_int(text) {
-        Some(number) => Ok(write_int(number, out)?),
-        None => write_none(out),
-    }
+    written_or_none!(read_int(text), out; number => write_int(number, out))
 }
 
 fn write_read_u32(text: &[u8], out: &mut Vec<u8>) -> Result<(), CaseFault> {
-    match read_u32(text) {
-        Some(number) => Ok(write_u32(number, out)?),
-        None => write_none(out),
-    }
+    written_or_none!(read_u32(text), out; number => write_u32(number, out))
 }
 
 /// A name is made of its own bytes once more, before its copy is written.
 fn write_read_name(alloc: Global, text: &[u8], out: &mut Vec<u8>) -> Result<(), CaseFault> {
-    match Name::read(alloc, text)? {
-        Some(name) => write_name(alloc, &name, out),
-        None => write_none(out),
-    }
+    written_or_none!(Name::read(alloc, text)?, out; name => write_name(alloc, &name, out))
 }
 
 fn write_name(alloc: Global, name: &Name, out: &mut Vec<u8>) -> Result<(), CaseFault> {
@@ -110,10 +104,7 @@ fn write_name(alloc: Global, name: &Name, out: &mut Vec<u8>) -> Result<(), CaseF
 
 /// A text is made of its content, and of its own bytes once more, before its copy is written.
 fn write_content(alloc: Global, content: &[u8], out: &mut Vec<u8>) -> Result<(), CaseFault> {
-    match Text::from_content(alloc, content)? {
-        Some(text) => write_text(alloc, &text, out),
-        None => write_none(out),
-    }
+    written_or_none!(Text::from_content(alloc, content)?, out; text => write_text(alloc, &text, out))
 }
 
 fn write_text(alloc: Global, text: &Text, out: &mut Vec<u8>) -> Result<(), CaseFault> {
@@ -122,39 +113,24 @@ fn write_text(alloc: Global, text: &Text, out: &mut Vec<u8>) -> Result<(), CaseF
 }
 
 fn write_read_value(alloc: Global, text: &[u8], out: &mut Vec<u8>) -> Result<(), CaseFault> {
-    match Value::read(alloc, text)? {
-        Some(value) => Ok(value.copy(alloc)?.write(out)?),
-        None => write_none(out),
-    }
+    written_or_none!(Value::read(alloc, text)?, out; value => value.copy(alloc)?.write(out))
 }
 
 fn write_read_payload(alloc: Global, text: &[u8], out: &mut Vec<u8>) -> Result<(), CaseFault> {
-    match Payload::read(alloc, text)? {
-        Some(payload) => Ok(payload.copy(alloc)?.write(out)?),
-        None => write_none(out),
-    }
+    written_or_none!(Payload::read(alloc, text)?, out; payload => payload.copy(alloc)?.write(out))
 }
 
 fn write_read_item(alloc: Global, text: &[u8], out: &mut Vec<u8>) -> Result<(), CaseFault> {
-    match ItemName::read(alloc, text)? {
-        Some(item) => Ok(item.copy(alloc)?.write(out)?),
-        None => write_none(out),
-    }
+    written_or_none!(ItemName::read(alloc, text)?, out; item => item.copy(alloc)?.write(out))
 }
 
 fn write_read_mark(text: &[u8], out: &mut Vec<u8>) -> Result<(), CaseFault> {
-    match Mark::read(text) {
-        Some(mark) => Ok(mark.write(out)?),
-        None => write_none(out),
-    }
+    written_or_none!(Mark::read(text), out; mark => mark.write(out))
 }
 
 fn write_read_seen(alloc: Global, text: &[u8], out: &mut Vec<u8>) -> Result<(), CaseFault> {
     let words = line_words(alloc, text)?;
-    match Seen::read(alloc, &words)? {
-        Some(seen) => Ok(seen.copy(alloc)?.write(out)?),
-        None => write_none(out),
-    }
+    written_or_none!(Seen::read(alloc, &words)?, out; seen => seen.copy(alloc)?.write(out))
 }
 
 /// The identifier of the event `AGGREGATE SEQ`.
@@ -212,10 +188,7 @@ fn write_got(alloc: Global, text: &[u8], out: &mut Vec<u8>) -> Result<(), CaseFa
     let (word, payload) = first_word(text);
     let name = name_of(alloc, word)?;
     let payload = payload_of(alloc, payload)?;
-    match payload.get(&name) {
-        Some(value) => Ok(value.write(out)?),
-        None => write_none(out),
-    }
+    written_or_none!(payload.get(&name), out; value => value.write(out))
 }
 
 /// How many records the copy of a list of one has.

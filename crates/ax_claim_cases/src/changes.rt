@@ -1,7 +1,6 @@
 use crate::written::{segment_of, token_of, write_changed, write_refused};
-use ax_case_lines::{CaseFault, first_word, name_of, u64_of};
+use ax_case_lines::{CaseFault, CaseLine, name_of, three_words, two_words, u64_of};
 use ax_claims::Rows;
-use std::alloc::Global;
 
 /// A fence that is held; `-` stands for none.
 pub(crate) fn held_of(text: &[u8]) -> Result<Option<u64>, CaseFault> {
@@ -12,41 +11,27 @@ pub(crate) fn held_of(text: &[u8]) -> Result<Option<u64>, CaseFault> {
 }
 
 /// The claim `SEGMENT OWNER NOW FENCE`; a refusal is followed by the name that it gives back.
-pub(crate) fn claim(
-    alloc: Global,
-    rows: &mut Rows,
-    text: &[u8],
-    out: &mut Vec<u8>,
-) -> Result<(), CaseFault> {
-    let (segment, rest) = first_word(text);
-    let (owner, rest) = first_word(rest);
-    let (now, fence) = first_word(rest);
+pub(crate) fn claim(rows: &mut Rows, line: &mut CaseLine) -> Result<(), CaseFault> {
+    let (segment, owner, now, fence) = three_words(&line.text);
     let segment = segment_of(segment)?;
     let (now, fence) = (u64_of(now)?, u64_of(fence)?);
-    let owner = name_of(alloc, owner)?;
+    let owner = name_of(line.alloc, owner)?;
     match rows.claim(segment, owner, now, fence) {
-        Ok(()) => Ok(out.extend_from_slice(b"done")?),
+        Ok(()) => Ok(line.out.extend_from_slice(b"done")?),
         Err((refused, owner)) => {
-            write_refused(&refused, out)?;
-            out.extend_from_slice(b" to ")?;
-            Ok(owner.write(out)?)
+            write_refused(&refused, &mut line.out)?;
+            line.out.extend_from_slice(b" to ")?;
+            Ok(owner.write(&mut line.out)?)
         }
     }
 }
 
 /// The store `SEGMENT HELD TOKEN NOW`.
-pub(crate) fn store(
-    alloc: Global,
-    rows: &mut Rows,
-    text: &[u8],
-    out: &mut Vec<u8>,
-) -> Result<(), CaseFault> {
-    let (segment, rest) = first_word(text);
-    let (held, rest) = first_word(rest);
-    let (token, now) = first_word(rest);
+pub(crate) fn store(rows: &mut Rows, line: &mut CaseLine) -> Result<(), CaseFault> {
+    let (segment, held, token, now) = three_words(&line.text);
     let segment = segment_of(segment)?;
     let (held, now) = (u64_of(held)?, u64_of(now)?);
-    let token = token_of(alloc, token)?;
+    let token = token_of(line.alloc, token)?;
     let changed = match rows.store(segment, held, token, now) {
         Ok(()) => Ok(()),
         Err((refused, token)) => {
@@ -54,21 +39,19 @@ pub(crate) fn store(
             Err(refused)
         }
     };
-    write_changed(changed, out)
+    write_changed(changed, &mut line.out)
 }
 
 /// The extension `SEGMENT HELD NOW`.
-pub(crate) fn extend(rows: &mut Rows, text: &[u8], out: &mut Vec<u8>) -> Result<(), CaseFault> {
-    let (segment, rest) = first_word(text);
-    let (held, now) = first_word(rest);
+pub(crate) fn extend(rows: &mut Rows, line: &mut CaseLine) -> Result<(), CaseFault> {
+    let (segment, held, now) = two_words(&line.text);
     let changed = rows.extend(segment_of(segment)?, held_of(held)?, u64_of(now)?);
-    write_changed(changed, out)
+    write_changed(changed, &mut line.out)
 }
 
 /// The release `SEGMENT HELD FENCE`.
-pub(crate) fn release(rows: &mut Rows, text: &[u8], out: &mut Vec<u8>) -> Result<(), CaseFault> {
-    let (segment, rest) = first_word(text);
-    let (held, fence) = first_word(rest);
+pub(crate) fn release(rows: &mut Rows, line: &mut CaseLine) -> Result<(), CaseFault> {
+    let (segment, held, fence) = two_words(&line.text);
     let changed = rows.release(segment_of(segment)?, held_of(held)?, u64_of(fence)?);
-    write_changed(changed, out)
+    write_changed(changed, &mut line.out)
 }

@@ -9,7 +9,9 @@ mod shapes;
 mod written;
 
 use crate::written::{ask, ask_token};
-use ax_case_lines::{CaseFault, Cases, case_named, first_word, perform_all, u32_of, u64_of};
+use ax_case_lines::{
+    CaseFault, CaseLine, Cases, case_named, first_word, perform_all, u32_of, u64_of,
+};
 use ax_claims::Rows;
 use std::alloc::Global;
 use std::{io, mem};
@@ -59,40 +61,31 @@ impl ClaimCases {
 }
 
 impl Cases for ClaimCases {
-    fn perform(
-        &mut self,
-        alloc: Global,
-        word: &[u8],
-        rest: &[u8],
-        out: &mut Vec<u8>,
-    ) -> Result<(), CaseFault> {
+    fn start(_: Global) -> ClaimCases {
+        ClaimCases { rows: None }
+    }
+
+    fn perform(&mut self, word: &[u8], line: &mut CaseLine) -> Result<(), CaseFault> {
         let case = named(word).ok_or(CaseFault::Line)?;
         if let ClaimCase::Start = case {
-            self.keep(started(alloc, rest)?);
+            self.keep(started(line.alloc, &line.text)?);
             return Ok(());
         }
-        let rows = self.rows.as_mut().ok_or(CaseFault::Line)?;
-        perform(alloc, rows, case, rest, out)
+        perform(self.rows.as_mut().ok_or(CaseFault::Line)?, case, line)
     }
 }
 
-fn perform(
-    alloc: Global,
-    rows: &mut Rows,
-    case: ClaimCase,
-    rest: &[u8],
-    out: &mut Vec<u8>,
-) -> Result<(), CaseFault> {
+fn perform(rows: &mut Rows, case: ClaimCase, line: &mut CaseLine) -> Result<(), CaseFault> {
     match case {
-        ClaimCase::Claim => changes::claim(alloc, rows, rest, out),
-        ClaimCase::Store => changes::store(alloc, rows, rest, out),
-        ClaimCase::Extend => changes::extend(rows, rest, out),
-        ClaimCase::Release => changes::release(rows, rest, out),
-        ClaimCase::Split => shapes::split(alloc, rows, rest, out),
-        ClaimCase::Merge => shapes::merge(alloc, rows, rest, out),
-        ClaimCase::Reset => shapes::reset(alloc, rows, rest, out),
-        ClaimCase::Token => ask_token(alloc, rows, rest, out),
-        _ => ask(rows, rest, out),
+        ClaimCase::Claim => changes::claim(rows, line),
+        ClaimCase::Store => changes::store(rows, line),
+        ClaimCase::Extend => changes::extend(rows, line),
+        ClaimCase::Release => changes::release(rows, line),
+        ClaimCase::Split => shapes::split(rows, line),
+        ClaimCase::Merge => shapes::merge(rows, line),
+        ClaimCase::Reset => shapes::reset(rows, line),
+        ClaimCase::Token => ask_token(rows, line),
+        _ => ask(rows, line),
     }
 }
 
@@ -108,6 +101,5 @@ fn started(alloc: Global, text: &[u8]) -> Result<Rows, CaseFault> {
 }
 
 fn main(rt: HostRuntime) -> io::Result<()> {
-    let mut cases = ClaimCases { rows: None };
-    perform_all(&rt, &mut cases)
+    perform_all::<HostRuntime, ClaimCases>(&rt)
 }

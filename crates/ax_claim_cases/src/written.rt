@@ -1,4 +1,4 @@
-use ax_case_lines::{CaseFault, first_word, write_either};
+use ax_case_lines::{CaseFault, CaseLine, first_word, write_either};
 use ax_claims::{ClaimFault, Refused, Rows, TokenRow};
 use ax_journal::{read_segment, write_segment};
 use ax_segments::Segment;
@@ -17,27 +17,22 @@ pub(crate) fn token_of(alloc: Global, text: &[u8]) -> Result<Token, CaseFault> {
 }
 
 /// Shows all rows, or that of a segment.
-pub(crate) fn ask(rows: &Rows, text: &[u8], out: &mut Vec<u8>) -> Result<(), CaseFault> {
-    if text.is_empty() {
-        return Ok(write_rows(rows.rows(), out)?);
+pub(crate) fn ask(rows: &Rows, line: &mut CaseLine) -> Result<(), CaseFault> {
+    if line.text.is_empty() {
+        return Ok(write_rows(rows.rows(), &mut line.out)?);
     }
-    match rows.get(segment_of(text)?) {
-        Some(row) => Ok(write_row(row, out)?),
-        None => Ok(out.extend_from_slice(b"none")?),
+    match rows.get(segment_of(&line.text)?) {
+        Some(row) => Ok(write_row(row, &mut line.out)?),
+        None => Ok(line.out.extend_from_slice(b"none")?),
     }
 }
 
 /// Whether the segment's row has the token: `SEGMENT TOKEN`.
-pub(crate) fn ask_token(
-    alloc: Global,
-    rows: &Rows,
-    text: &[u8],
-    out: &mut Vec<u8>,
-) -> Result<(), CaseFault> {
-    let (segment, token) = first_word(text);
+pub(crate) fn ask_token(rows: &Rows, line: &mut CaseLine) -> Result<(), CaseFault> {
+    let (segment, token) = first_word(&line.text);
     let row = rows.get(segment_of(segment)?).ok_or(CaseFault::Line)?;
-    let same = is_token(alloc, row, token)?;
-    write_either(same, b"yes", b"no", out)
+    let same = is_token(line.alloc, row, token)?;
+    write_either(same, b"yes", b"no", &mut line.out)
 }
 
 /// Whether the row has the token that a text is.

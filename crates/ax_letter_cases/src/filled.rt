@@ -1,6 +1,6 @@
 use crate::letters::letter;
 use crate::written::write_changed;
-use ax_case_lines::{CaseFault, item_of, u32_of};
+use ax_case_lines::{CaseFault, CaseLine, item_of, u32_of};
 use ax_letters::{Queue, QueueFault};
 use ax_rules::Why;
 use ax_values::{ItemName, write_u32};
@@ -8,16 +8,10 @@ use std::alloc::Global;
 
 /// Adds so many letters, up to the first that is refused: each of a sequence of its own, `a-0` and so on, or all of the sequence `a`.
 /// Says after how many one was refused, and why.
-pub(crate) fn fill(
-    alloc: Global,
-    queue: &mut Queue,
-    wide: bool,
-    text: &[u8],
-    out: &mut Vec<u8>,
-) -> Result<(), CaseFault> {
-    for number in 0..u32_of(text)? {
-        if let Err(fault) = add(alloc, queue, wide, number)? {
-            return write_stopped(number, fault, out);
+pub(crate) fn fill(queue: &mut Queue, wide: bool, line: &mut CaseLine) -> Result<(), CaseFault> {
+    for number in 0..u32_of(&line.text)? {
+        if let Err(fault) = add(line.alloc, queue, wide, number)? {
+            return write_stopped(number, fault, &mut line.out);
         }
     }
     Ok(())

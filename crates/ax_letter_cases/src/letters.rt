@@ -1,4 +1,4 @@
-use ax_case_lines::{CaseFault, first_word, item_of, name_of, u64_of};
+use ax_case_lines::{CaseFault, item_of, name_of, two_words, u64_of};
 use ax_letters::Letter;
 use ax_rules::Why;
 use ax_values::{Item, ItemName, Payload};
@@ -6,8 +6,7 @@ use std::alloc::Global;
 
 /// The letter `ITEM TOUCHED WHY`.
 pub(crate) fn letter_of(alloc: Global, text: &[u8]) -> Result<Letter, CaseFault> {
-    let (item, rest) = first_word(text);
-    let (touched, why) = first_word(rest);
+    let (item, touched, why) = two_words(text);
     let touched = u64_of(touched)?;
     let why = why_of(alloc, why)?;
     let item = item_of(alloc, item)?;

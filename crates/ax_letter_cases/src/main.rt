@@ -9,7 +9,7 @@ mod filled;
 mod letters;
 mod written;
 
-use ax_case_lines::{CaseFault, Cases, case_named, name_of, perform_all, u64_of};
+use ax_case_lines::{CaseFault, CaseLine, Cases, case_named, name_of, perform_all};
 use ax_letters::Queue;
 use std::alloc::Global;
 use std::{io, mem};
@@ -75,52 +75,42 @@ impl LetterCases {
 }
 
 impl Cases for LetterCases {
-    fn perform(
-        &mut self,
-        alloc: Global,
-        word: &[u8],
-        rest: &[u8],
-        out: &mut Vec<u8>,
-    ) -> Result<(), CaseFault> {
-        let case = named(word).ok_or(CaseFault::Line)?;
-        if let LetterCase::New = case {
-            return self.begin(alloc, rest);
+    fn start(alloc: Global) -> LetterCases {
+        LetterCases {
+            queue: Queue::new(alloc, None),
         }
-        perform(alloc, &mut self.queue, case, rest, out)
+    }
+
+    fn perform(&mut self, word: &[u8], line: &mut CaseLine) -> Result<(), CaseFault> {
+        match named(word).ok_or(CaseFault::Line)? {
+            LetterCase::New => self.begin(line.alloc, &line.text),
+            case => perform(&mut self.queue, case, line),
+        }
     }
 }
 
-fn perform(
-    alloc: Global,
-    queue: &mut Queue,
-    case: LetterCase,
-    rest: &[u8],
-    out: &mut Vec<u8>,
-) -> Result<(), CaseFault> {
+fn perform(queue: &mut Queue, case: LetterCase, line: &mut CaseLine) -> Result<(), CaseFault> {
     match case {
-        LetterCase::Enqueue => changes::enqueue(alloc, queue, rest, out),
-        LetterCase::Room => changes::make_room(alloc, queue, rest),
-        LetterCase::Evict => changes::evict(alloc, queue, rest, out),
-        LetterCase::Requeue => changes::requeue(alloc, queue, rest, out),
-        LetterCase::Hold => changes::hold(alloc, queue, rest),
-        LetterCase::Free => changes::free(alloc, queue, rest),
+        LetterCase::Enqueue => changes::enqueue(queue, line),
+        LetterCase::Room => changes::make_room(queue, line),
+        LetterCase::Evict => changes::evict(queue, line),
+        LetterCase::Requeue => changes::requeue(queue, line),
+        LetterCase::Hold => changes::hold(queue, line),
+        LetterCase::Free => changes::free(queue, line),
         LetterCase::Clear => {
             queue.clear();
             Ok(())
         }
-        LetterCase::Wide => filled::fill(alloc, queue, true, rest, out),
-        LetterCase::Long => filled::fill(alloc, queue, false, rest, out),
-        LetterCase::Sequences => Ok(written::write_sequences(queue, out)?),
-        LetterCase::Letters => written::ask_letters(alloc, queue, rest, out),
-        LetterCase::Taken => written::ask_taken(alloc, queue, rest, out),
-        LetterCase::Oldest => Ok(written::write_name(queue.oldest_free(u64_of(rest)?), out)?),
-        _ => written::ask_take(alloc, queue, u64_of(rest)?, out),
+        LetterCase::Wide => filled::fill(queue, true, line),
+        LetterCase::Long => filled::fill(queue, false, line),
+        LetterCase::Sequences => Ok(written::write_sequences(queue, &mut line.out)?),
+        LetterCase::Letters => written::ask_sequence(queue, false, line),
+        LetterCase::Taken => written::ask_sequence(queue, true, line),
+        LetterCase::Oldest => written::ask_oldest(queue, line),
+        _ => written::ask_take(queue, line),
     }
 }
 
 fn main(rt: HostRuntime) -> io::Result<()> {
-    let mut cases = LetterCases {
-        queue: Queue::new(rt.alloc(), None),
-    };
-    perform_all(&rt, &mut cases)
+    perform_all::<HostRuntime, LetterCases>(&rt)
 }

@@ -1,48 +1,39 @@
-use ax_case_lines::{CaseFault, name_of};
+use ax_case_lines::{CaseFault, CaseLine, name_of, u64_of};
 use ax_letters::{Letter, Queue, QueueFault, Taken};
 use ax_values::{Name, NoMemory, write_number, write_u32};
-use std::alloc::Global;
 
-/// Shows the letters of a sequence.
-pub(crate) fn ask_letters(
-    alloc: Global,
+/// Shows who took a sequence, or its letters.
+pub(crate) fn ask_sequence(
     queue: &Queue,
-    text: &[u8],
-    out: &mut Vec<u8>,
+    is_taken: bool,
+    line: &mut CaseLine,
 ) -> Result<(), CaseFault> {
-    let sequence = name_of(alloc, text)?;
-    let letters = queue.letters_of(&sequence);
+    let sequence = name_of(line.alloc, &line.text)?;
+    let written = if is_taken {
+        write_taken(queue.taken(&sequence), &mut line.out)
+    } else {
+        write_letters(queue.letters_of(&sequence), &mut line.out)
+    };
     drop(sequence);
-    Ok(write_letters(letters, out)?)
+    Ok(written?)
 }
 
-/// Shows who took a sequence.
-pub(crate) fn ask_taken(
-    alloc: Global,
-    queue: &Queue,
-    text: &[u8],
-    out: &mut Vec<u8>,
-) -> Result<(), CaseFault> {
-    let sequence = name_of(alloc, text)?;
-    let taken = queue.taken(&sequence);
-    drop(sequence);
-    Ok(write_taken(taken, out)?)
+/// The sequence that was touched the longest time ago, of those that are free at a moment.
+pub(crate) fn ask_oldest(queue: &Queue, line: &mut CaseLine) -> Result<(), CaseFault> {
+    let now = u64_of(&line.text)?;
+    Ok(write_name(queue.oldest_free(now), &mut line.out)?)
 }
 
 /// The sequence that a take at a moment gets.
-pub(crate) fn ask_take(
-    alloc: Global,
-    queue: &Queue,
-    now: u64,
-    out: &mut Vec<u8>,
-) -> Result<(), CaseFault> {
-    match queue.take(alloc, now) {
-        Ok(next) => Ok(write_name(next, out)?),
-        Err(fault) => write_changed(Err(fault), out),
+pub(crate) fn ask_take(queue: &Queue, line: &mut CaseLine) -> Result<(), CaseFault> {
+    let now = u64_of(&line.text)?;
+    match queue.take(line.alloc, now) {
+        Ok(next) => Ok(write_name(next, &mut line.out)?),
+        Err(fault) => write_changed(Err(fault), &mut line.out),
     }
 }
 
-pub(crate) fn write_name(name: Option<&Name>, out: &mut Vec<u8>) -> Result<(), NoMemory> {
+fn write_name(name: Option<&Name>, out: &mut Vec<u8>) -> Result<(), NoMemory> {
     match name {
         Some(name) => name.write(out),
         None => Ok(out.extend_from_slice(b"none")?),

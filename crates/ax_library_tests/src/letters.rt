@@ -1,23 +1,15 @@
-use ax_case_lines::{CaseFault, item_of, name_of};
+use ax_case_lines::{CaseFault, name_of, whole_item_of};
 use ax_letters::{Letter, Queue, QueueFault, Taken};
 use ax_rules::Why;
-use ax_values::{Item, Name, Payload};
+use ax_values::Name;
 use std::alloc::Global;
 use std::slice;
 use std::test::Fail;
 
 /// A letter of the first item of a card.
 fn letter(alloc: Global) -> Result<Letter, CaseFault> {
-    let name = item_of(alloc, b"card-1.0.0")?;
-    let kind = name_of(alloc, b"issued")?;
-    let payload = Payload::of(Vec::new(alloc));
-    let item = Item {
-        name,
-        kind,
-        payload,
-    };
     Ok(Letter {
-        item,
+        item: whole_item_of(alloc, b"card-1.0.0 issued")?,
         index: 0,
         touched: 0,
         replayed: false,

@@ -1,8 +1,8 @@
-use ax_case_lines::{CaseFault, item_of, name_of, payload_of};
+use ax_case_lines::{CaseFault, item_of, name_of, whole_item_of};
 use ax_rules::SagaRules;
 use ax_sagas::{Delivery, Received, Saga, Sent, begin, receive};
 use ax_sheet::Sheet;
-use ax_values::{Duplicate, Item, Payload};
+use ax_values::{Duplicate, Payload};
 use std::alloc::Global;
 use std::test::Fail;
 
@@ -14,28 +14,16 @@ fn rules_in(alloc: Global, cards: &Sheet) -> Result<&SagaRules, CaseFault> {
     rules.ok_or(CaseFault::Line)
 }
 
-fn item(alloc: Global, name: &[u8], kind: &[u8], payload: &[u8]) -> Result<Item, CaseFault> {
-    let name = item_of(alloc, name)?;
-    let kind = name_of(alloc, kind)?;
-    let payload = payload_of(alloc, payload)?;
-    Ok(Item {
-        name,
-        kind,
-        payload,
-    })
-}
-
 /// The saga that a transfer of 30 starts.
 fn begun(alloc: Global, rules: &SagaRules) -> Result<Received, CaseFault> {
-    let payload = b"amount=30 to=\"card-2\" transfer=\"t1\"";
-    let item = item(alloc, b"card-1.1.0", b"transferred", payload)?;
+    let text = b"card-1.1.0 transferred amount=30 to=\"card-2\" transfer=\"t1\"";
+    let item = whole_item_of(alloc, text)?;
     begin(alloc, rules, &item)?.ok_or(CaseFault::Line)
 }
 
 /// What the credit of the transfer does to the saga.
 fn credited(alloc: Global, rules: &SagaRules, saga: &Saga) -> Result<Received, CaseFault> {
-    let payload = b"amount=30 transfer=\"t1\"";
-    let item = item(alloc, b"card-2.1.0", b"credited", payload)?;
+    let item = whole_item_of(alloc, b"card-2.1.0 credited amount=30 transfer=\"t1\"")?;
     if saga.row.parts().len() != rules.fields().len() {
         return Err(CaseFault::Line);
     }

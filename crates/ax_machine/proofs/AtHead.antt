@@ -4,7 +4,7 @@ use Rattle.std.specs.Prelude.{IsOk}
 use Rattle.std.specs.List.{AllByRecursion, list_all}
 use Rattle.std.proofs.Math.Seq.{take-length}
 use Rattle.std.proofs.lemmas.Bool.Decides.{nat_tests}
-use Rattle.ax_values.specs.Grammar.{Name}
+use Rattle.ax_values.specs.Grammar.{Name, ItemName}
 use Rattle.ax_laws.proofs.Tests.{both}
 use Rattle.ax_log.specs.Log.{Stored, events_from, events, stream_in, is_of, aggregates, is_reserved}
 use Rattle.ax_rules.specs.Expr.{Row}
@@ -21,7 +21,7 @@ use Rattle.ax_state.specs.State.{State, ProcessorState, processor_state_at, empt
 use Rattle.ax_state.specs.Positions.{items_at, covered_in, covered_items_in, row_covers, undropped, position_of, row_of, shown_at, has_items, rebuilt_at, is_empty, has_all, covers_all, is_at_head}
 use Rattle.ax_state.specs.WellFormed.{IsProcessorState, IsWellFormed}
 use Rattle.ax_state.proofs.Lists.{AllFrom-get}
-use Rattle.ax_state.proofs.Prefixes.{same-row, filter-items}
+use Rattle.ax_state.proofs.Prefixes.{same-row, bare-position, filter-items}
 use Rattle.ax_world.proofs.ProcessorStates.{get-at}
 use Rattle.ax_world.proofs.Projections.{projection-within}
 use Rattle.ax_state.proofs.RowPuts.{rows-of}
@@ -128,11 +128,11 @@ module _ (m : State) (p : ℕ) (h : IsWellFormed m) (projection : IsTrue (is_pro
 
   row-ok : (d : Row) (a : Name) → row_of m p a ≡ Ok (row_or d (row_of m p a))
   row-ok d a =
-      ok-or d (row_of m p a) (subst IsOk (sym (same-row whole (projection_at m.setting p) m.setting.sheet.chain m.cells processor_state a place.folded.prefixes)) (place.folded.rows projection a))
+      ok-or d (row_of m p a) (subst IsOk (sym (same-row m.setting m.cells p processor_state place (projection_at m.setting p) a)) (place.folded.rows projection a))
 
   is-fold : (a : Name) → IsFoldOfPrefix m p (shown_at m p a)
   is-fold a = record {
-    within = fewer (λ x. covered_in processor_state.rows (hash_in whole a) x.index) (items_at m a);
+    within = subst (λ n. n ≤ length (items_at m a)) (sym (bare-position processor_state place.bare whole m.setting.sheet.chain m.cells a)) (fewer (λ x. covered_in processor_state.rows (hash_in whole a) x.index) (items_at m a));
     row = row-ok (start_row (projection_at m.setting p).fields) a;
   }
 
@@ -161,10 +161,10 @@ module _ (m : State) (p : ℕ) (h : IsWellFormed m) (projection : IsTrue (is_pro
       rules = projection_at m.setting p
 
       count : position_of m p a ≡ length (items_at m a)
-      count = ap length (head-items head a)
+      count = bare-position processor_state place.bare whole m.setting.sheet.chain m.cells a ∙ ap length (head-items head a)
 
       of-all : row_of m p a ≡ fold_items rules (plain_items (items_at m a))
-      of-all = ap (λ n. fold_items rules (plain_items (undropped [] (take n (items_at m a))))) count ∙ ap (λ xs. fold_items rules (plain_items (undropped [] xs))) (take-length (items_at m a)) ∙ ap (λ xs. fold_items rules (plain_items xs)) (none-dropped (items_at m a))
+      of-all = ap (λ (ds : List ItemName). fold_items rules (plain_items (undropped ds (take (position_of m p a) (items_at m a))))) place.bare.drops ∙ ap (λ n. fold_items rules (plain_items (undropped [] (take n (items_at m a))))) count ∙ ap (λ xs. fold_items rules (plain_items (undropped [] xs))) (take-length (items_at m a)) ∙ ap (λ xs. fold_items rules (plain_items xs)) (none-dropped (items_at m a))
 
       folded : lenient rules (plain_items (items_at m a)) ≡ row_or (start_row rules.fields) (row_of m p a)
       folded = lenient-ok rules (plain_items (items_at m a)) (start_row rules.fields) (row_or (start_row rules.fields) (row_of m p a)) (sym of-all ∙ row-ok (start_row rules.fields) a)

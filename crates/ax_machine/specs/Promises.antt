@@ -8,7 +8,7 @@ use Rattle.ax_journal.specs.declared.entry.Entry.{Entry}
 use Rattle.ax_journal.specs.declared.order.Order.{Order}
 use Rattle.ax_state.specs.Setting.{processor_number, projection_at, is_projection}
 use Rattle.ax_state.specs.State.{State, processor_state_at}
-use Rattle.ax_state.specs.Positions.{Shown, items_at, undropped, drops_of, rows_of, rebuilt_rows, is_at_head}
+use Rattle.ax_state.specs.Positions.{Shown, items_at, undropped, rows_of, rebuilt_rows, is_at_head}
 use Rattle.ax_report.specs.Reports.{rows_report}
 use Rattle.ax_script.specs.Plans.{Plan}
 use Rattle.ax_script.specs.Reading.{Wrong}
@@ -17,7 +17,7 @@ use Rattle.ax_machine.specs.Run.{run_of, state_after}
 -- the row is the fold, each item once and in order, of a prefix of its aggregate's items, less the dropped ones
 pub record IsFoldOfPrefix (m : State) (p : ℕ) (r : Shown) : Type 0 where
   pub within : r.position ≤ length (items_at m r.aggregate)
-  pub row : fold_items (projection_at m.setting p) (plain_items (undropped (drops_of (processor_state_at m p)) (take r.position (items_at m r.aggregate)))) ≡ Ok r.row
+  pub row : fold_items (projection_at m.setting p) (plain_items (undropped (processor_state_at m p).drops (take r.position (items_at m r.aggregate)))) ≡ Ok r.row
 
 -- each row of the processor is so, and at the head they are the rows that the log alone gives
 pub record AreRight (m : State) (p : ℕ) : Type 0 where

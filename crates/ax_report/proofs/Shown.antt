@@ -20,7 +20,7 @@ use Rattle.ax_state.specs.Portions.{portions, covered_events}
 use Rattle.ax_state.specs.WellFormed.{IsProcessorState, CoverPrefix}
 use Rattle.ax_state.specs.Answer.{reported}
 use Rattle.ax_state.proofs.Lists.{AllFrom-get}
-use Rattle.ax_state.proofs.Prefixes.{same-position, same-row}
+use Rattle.ax_state.proofs.Prefixes.{same-position, same-row, bare-position}
 use Rattle.ax_world.specs.WorldTables.{WorldTables, no_tables, state_of, processor_tables_at}
 use Rattle.ax_world.specs.Fits.{IsWorld, IsTable, folded_row, row_if}
 use Rattle.ax_world.specs.Moves.{IsMove}
@@ -136,8 +136,8 @@ module _ (w : WorldTables) (p : ℕ) (h : IsWorld w) (projection : IsTrue (is_pr
   abbrev whole : Option Name
   whole = whole_at w.setting p
 
-  prefixes : CoverPrefix whole (events w.cells) (portions (processor_state_at (state_of w) p).rows)
-  prefixes = (AllFrom-get (IsProcessorState w.setting w.cells) 0 (state_of w).processor_states p (processor_state_at (state_of w) p) h.state.processors there p (omega arith)).folded.prefixes
+  place : IsProcessorState w.setting w.cells p (processor_state_at (state_of w) p)
+  place = AllFrom-get (IsProcessorState w.setting w.cells) 0 (state_of w).processor_states p (processor_state_at (state_of w) p) h.state.processors there p (omega arith)
 
   kept : (a : Name) → look_up a (processor_tables_at w p).table ≡ folded_row w.setting p (covered_events whole (portions (processor_tables_at w p).processor_state.rows) (events w.cells)) (processor_tables_at w p).processor_state a
   kept = AllFrom-get (IsTable w.setting (events w.cells)) 0 w.processor_tables p (processor_tables_at w p) h.tables (get-at no_tables w.processor_tables p (place-declared w p h lt)) p (omega arith) projection
@@ -146,14 +146,14 @@ module _ (w : WorldTables) (p : ℕ) (h : IsWorld w) (projection : IsTrue (is_pr
   shown-look_up a =
       kept a
       ∙ ap (λ (x : ProcessorState). folded_row w.setting p (covered_events whole (portions x.rows) (events w.cells)) x a) (sym (processor_state-place w p))
-      ∙ ap (λ n. row_if w.setting p (covered_events whole (portions (processor_state_at (state_of w) p).rows) (events w.cells)) (processor_state_at (state_of w) p) a n) (sym (same-position whole w.setting.sheet.chain w.cells (processor_state_at (state_of w) p) a))
+      ∙ ap (λ n. row_if w.setting p (covered_events whole (portions (processor_state_at (state_of w) p).rows) (events w.cells)) (processor_state_at (state_of w) p) a n) (sym (same-position w.setting w.cells p (processor_state_at (state_of w) p) place a))
       ∙ ap (λ r. if nat_lt 0 (position_in whole w.setting.sheet.chain w.cells (processor_state_at (state_of w) p) a) then Some (record { position = position_in whole w.setting.sheet.chain w.cells (processor_state_at (state_of w) p) a; row = row_or (start_row (projection_at w.setting p).fields) r }) else None)
-      (sym (same-row whole (projection_at w.setting p) w.setting.sheet.chain w.cells (processor_state_at (state_of w) p) a prefixes))
+      (sym (same-row w.setting w.cells p (processor_state_at (state_of w) p) place (projection_at w.setting p) a))
 
   shown-listed : (names : List Name) → AreNames (processor_tables_at w p).table names → listed (processor_tables_at w p).table names ≡ rows_of (state_of w) p
   shown-listed names n =
       in-order (shown_at (state_of w) p) (processor_tables_at w p).table names (events w.cells) n shown-look_up (λ a. refl)
-      (λ a k. filter-none (λ x. covered_in (processor_state_at (state_of w) p).rows _ x.index) (placed_items w.setting.sheet.chain) (stream_in a (events w.cells)) k)
+      (λ a k. filter-none (λ x. covered_in (processor_state_at (state_of w) p).rows _ x.index) (placed_items w.setting.sheet.chain) (stream_in a (events w.cells)) (ap (nat_lt 0) (sym (bare-position (processor_state_at (state_of w) p) place.bare whole w.setting.sheet.chain w.cells a)) ∙ k))
 
 pub shown-move : (w : WorldTables) (p : ℕ) (rules : Rules) (table : List Entry) (lines : List Line) (move : Move) → IsWorld w → IsTrue (is_projection w.setting p) → rules ≡ projection_at w.setting p → table ≡ (processor_tables_at w p).table
     → AddsRows rules.fields table [] lines → move ≡ record { edits = []; reply = Reply.Lines (length lines); report = lines } → IsMove w (reported (state_of w) (rows_report (state_of w) p)) move

@@ -1,6 +1,6 @@
 use crate::scripts::Scripts;
 use crate::sinks::ByteSink;
-use ax_case_lines::{CaseFault, case_named, first_word, u32_of};
+use ax_case_lines::{CaseFault, CaseLine, case_named, first_word, u32_of};
 use ax_ports::{MemoryKeeper, MemorySink, MemorySource, StdSource};
 use ax_top::{Status, run_script};
 use ax_values::{line_words, write_number};
@@ -56,30 +56,29 @@ impl Calls {
 
     pub(crate) fn perform(
         &mut self,
-        alloc: Global,
         scripts: &Scripts,
         case: CallCase,
-        rest: &[u8],
-        out: &mut Vec<u8>,
+        line: &mut CaseLine,
     ) -> Result<(), CaseFault> {
+        let (alloc, text, out) = (line.alloc, line.text.as_slice(), &mut line.out);
         match case {
-            CallCase::Reads => Ok(self.reads.push(u32_of(rest)?)?),
-            CallCase::Writes => Ok(self.writes.push(u32_of(rest)?)?),
+            CallCase::Reads => Ok(self.reads.push(u32_of(text)?)?),
+            CallCase::Writes => Ok(self.writes.push(u32_of(text)?)?),
             CallCase::Perform => {
-                let words = words_of(alloc, rest)?;
+                let words = words_of(alloc, text)?;
                 self.call(alloc, &words, scripts.script(), out)
             }
             CallCase::Wordless => self.call(alloc, &Vec::new(alloc), scripts.script(), out),
-            CallCase::Unread => write_unread(alloc, rest, out),
+            CallCase::Unread => write_unread(alloc, text, out),
             CallCase::Status => {
-                let words = words_of(alloc, rest)?;
+                let words = words_of(alloc, text)?;
                 let (status, _) = run(alloc, &words, scripts.script())?;
                 write_status(status, out)
             }
-            CallCase::Tail => write_tail(alloc, rest, scripts.script(), out),
+            CallCase::Tail => write_tail(alloc, text, scripts.script(), out),
             CallCase::Run => {
                 let words = words_of(alloc, b"run")?;
-                let script = scripts.with(alloc, rest)?;
+                let script = scripts.with(alloc, text)?;
                 self.call(alloc, &words, &script, out)
             }
             CallCase::Cuts => write_cuts(alloc, scripts.script(), out),

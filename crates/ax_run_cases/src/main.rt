@@ -10,7 +10,7 @@ mod sinks;
 
 use crate::calls::{CallCase, Calls};
 use crate::scripts::{ScriptCase, Scripts};
-use ax_case_lines::{CaseFault, Cases, perform_all};
+use ax_case_lines::{CaseFault, CaseLine, Cases, perform_all};
 use std::alloc::Global;
 use std::io;
 
@@ -22,26 +22,22 @@ struct RunCases {
 }
 
 impl Cases for RunCases {
-    fn perform(
-        &mut self,
-        alloc: Global,
-        word: &[u8],
-        rest: &[u8],
-        out: &mut Vec<u8>,
-    ) -> Result<(), CaseFault> {
+    fn start(alloc: Global) -> RunCases {
+        RunCases {
+            scripts: Scripts::new(alloc),
+            calls: Calls::new(alloc),
+        }
+    }
+
+    fn perform(&mut self, word: &[u8], line: &mut CaseLine) -> Result<(), CaseFault> {
         if let Some(case) = ScriptCase::named(word) {
-            return self.scripts.perform(alloc, case, rest, out);
+            return self.scripts.perform(case, line);
         }
         let case = CallCase::named(word).ok_or(CaseFault::Line)?;
-        self.calls.perform(alloc, &self.scripts, case, rest, out)
+        self.calls.perform(&self.scripts, case, line)
     }
 }
 
 fn main(rt: HostRuntime) -> io::Result<()> {
-    let alloc = rt.alloc();
-    let mut cases = RunCases {
-        scripts: Scripts::new(alloc),
-        calls: Calls::new(alloc),
-    };
-    perform_all(&rt, &mut cases)
+    perform_all::<HostRuntime, RunCases>(&rt)
 }

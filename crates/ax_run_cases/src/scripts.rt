@@ -1,4 +1,4 @@
-use ax_case_lines::{CaseFault, case_named, first_word, u32_of};
+use ax_case_lines::{CaseFault, CaseLine, case_named, first_word, u32_of};
 use ax_script::{Plan, ScriptFault, read};
 use ax_values::{write_number, write_u32};
 use std::alloc::Global;
@@ -55,24 +55,23 @@ impl Scripts {
 
     pub(crate) fn perform(
         &mut self,
-        alloc: Global,
         case: ScriptCase,
-        rest: &[u8],
-        out: &mut Vec<u8>,
+        line: &mut CaseLine,
     ) -> Result<(), CaseFault> {
+        let (alloc, text, out) = (line.alloc, line.text.as_slice(), &mut line.out);
         match case {
-            ScriptCase::Head => self.head = rest.to_vec(alloc)?,
-            ScriptCase::Script => self.script = self.with(alloc, rest)?,
+            ScriptCase::Head => self.head = text.to_vec(alloc)?,
+            ScriptCase::Script => self.script = self.with(alloc, text)?,
             ScriptCase::Line => {
-                self.script.extend_from_slice(rest)?;
+                self.script.extend_from_slice(text)?;
                 self.script.push(b'\n')?;
                 out.extend_from_slice(b"> ")?;
-                out.extend_from_slice(rest)?;
+                out.extend_from_slice(text)?;
             }
-            ScriptCase::Fill => self.fill(rest)?,
+            ScriptCase::Fill => self.fill(text)?,
             ScriptCase::Plan => write_read(alloc, &self.script, out)?,
             ScriptCase::Read => {
-                let script = self.with(alloc, rest)?;
+                let script = self.with(alloc, text)?;
                 write_read(alloc, &script, out)?;
             }
         }

@@ -10,7 +10,7 @@ mod sagas;
 mod written;
 
 use crate::sagas::Sagas;
-use ax_case_lines::{CaseFault, Cases, case_named, first_word, name_of, perform_all};
+use ax_case_lines::{CaseFault, CaseLine, Cases, case_named, first_word, name_of, perform_all};
 use ax_rules::SagaRules;
 use ax_sheet::{Sheet, SheetFault};
 use std::alloc::Global;
@@ -62,49 +62,41 @@ fn sheet_of(alloc: Global, text: &[u8]) -> Result<Sheet, CaseFault> {
     }
 }
 
-/// The rules of the saga of this name.
-fn rules_of<'a>(
-    alloc: Global,
-    sheet: Option<&'a Sheet>,
-    word: &[u8],
-) -> Result<&'a SagaRules, CaseFault> {
+/// The rules of the saga that the first word of what is asked for names.
+fn rules_of<'a>(sheet: Option<&'a Sheet>, line: &CaseLine) -> Result<&'a SagaRules, CaseFault> {
     let sheet = sheet.ok_or(CaseFault::Line)?;
-    let name = name_of(alloc, word)?;
+    let (word, _) = first_word(&line.text);
+    let name = name_of(line.alloc, word)?;
     let rules = sheet.saga(&name);
     drop(name);
     rules.ok_or(CaseFault::Line)
 }
 
 impl Cases for SagaCases {
-    fn perform(
-        &mut self,
-        alloc: Global,
-        word: &[u8],
-        rest: &[u8],
-        out: &mut Vec<u8>,
-    ) -> Result<(), CaseFault> {
+    fn start(alloc: Global) -> SagaCases {
+        SagaCases {
+            sheet: None,
+            sagas: Sagas::new(alloc),
+        }
+    }
+
+    fn perform(&mut self, word: &[u8], line: &mut CaseLine) -> Result<(), CaseFault> {
         match named(word).ok_or(CaseFault::Line)? {
-            Asked::Sheet => self.read(alloc, rest),
+            Asked::Sheet => self.read(line.alloc, &line.text),
             Asked::Begin => {
-                let (word, text) = first_word(rest);
-                let rules = rules_of(alloc, self.sheet.as_ref(), word)?;
-                self.sagas.begin(alloc, rules, text, out)
+                let rules = rules_of(self.sheet.as_ref(), line)?;
+                self.sagas.begin(rules, line)
             }
             Asked::Receive => {
-                let (word, text) = first_word(rest);
-                let rules = rules_of(alloc, self.sheet.as_ref(), word)?;
-                self.sagas.receive(alloc, rules, text, out)
+                let rules = rules_of(self.sheet.as_ref(), line)?;
+                self.sagas.receive(rules, line)
             }
-            Asked::Expects => self.sagas.ask(alloc, rest, out),
-            Asked::Sagas => Ok(self.sagas.write_names(out)?),
+            Asked::Expects => self.sagas.ask(line),
+            Asked::Sagas => Ok(self.sagas.write_names(&mut line.out)?),
         }
     }
 }
 
 fn main(rt: HostRuntime) -> io::Result<()> {
-    let mut cases = SagaCases {
-        sheet: None,
-        sagas: Sagas::new(rt.alloc()),
-    };
-    perform_all(&rt, &mut cases)
+    perform_all::<HostRuntime, SagaCases>(&rt)
 }

@@ -1,5 +1,7 @@
 use crate::written::write_received;
-use ax_case_lines::{CaseFault, first_word, item_of, name_of, payload_of, write_either};
+use ax_case_lines::{
+    CaseFault, CaseLine, first_word, item_of, two_words, whole_item_of, write_either,
+};
 use ax_rules::{Initial, SagaRules};
 use ax_sagas::{Received, Saga, begin, place_among, receive};
 use ax_values::{Item, NoMemory};
@@ -19,46 +21,37 @@ impl Sagas {
         }
     }
 
-    /// The saga that the item `ITEM KIND PAYLOAD` starts.
+    /// The saga that the item starts: `RULES ITEM KIND PAYLOAD`.
     pub(crate) fn begin(
         &mut self,
-        alloc: Global,
         rules: &SagaRules,
-        text: &[u8],
-        out: &mut Vec<u8>,
+        line: &mut CaseLine,
     ) -> Result<(), CaseFault> {
-        let item = item_from(alloc, text)?;
-        let made = begin(alloc, rules, &item)?;
+        let (_, text) = first_word(&line.text);
+        let item = whole_item_of(line.alloc, text)?;
+        let made = begin(line.alloc, rules, &item)?;
         drop(item);
-        self.note(rules.fields(), made, out)
+        self.note(rules.fields(), made, &mut line.out)
     }
 
-    /// What the item `SAGA ITEM KIND PAYLOAD` does to the saga.
+    /// What the item does to the saga: `RULES SAGA ITEM KIND PAYLOAD`.
     pub(crate) fn receive(
         &mut self,
-        alloc: Global,
         rules: &SagaRules,
-        text: &[u8],
-        out: &mut Vec<u8>,
+        line: &mut CaseLine,
     ) -> Result<(), CaseFault> {
-        let (word, rest) = first_word(text);
-        let item = item_from(alloc, rest)?;
-        let made = received(alloc, rules, self.saga(alloc, word)?, &item)?;
+        let (_, saga, text) = two_words(&line.text);
+        let item = whole_item_of(line.alloc, text)?;
+        let made = received(line.alloc, rules, self.saga(line.alloc, saga)?, &item)?;
         drop(item);
-        self.note(rules.fields(), made, out)
+        self.note(rules.fields(), made, &mut line.out)
     }
 
     /// Whether a saga is live with an association: `SAGA KEY VALUE`.
-    pub(crate) fn ask(
-        &self,
-        alloc: Global,
-        text: &[u8],
-        out: &mut Vec<u8>,
-    ) -> Result<(), CaseFault> {
-        let (saga, link) = first_word(text);
-        let (key, value) = first_word(link);
-        let expects = self.saga(alloc, saga)?.expects(key, value);
-        write_either(expects, b"yes", b"no", out)
+    pub(crate) fn ask(&self, line: &mut CaseLine) -> Result<(), CaseFault> {
+        let (saga, key, value) = two_words(&line.text);
+        let expects = self.saga(line.alloc, saga)?.expects(key, value);
+        write_either(expects, b"yes", b"no", &mut line.out)
     }
 
     /// The names of all sagas.
@@ -119,18 +112,4 @@ fn received(
         return Err(CaseFault::Line);
     }
     Ok(receive(alloc, rules, saga, item)?)
-}
-
-/// The item `ITEM KIND PAYLOAD`.
-fn item_from(alloc: Global, text: &[u8]) -> Result<Item, CaseFault> {
-    let (name, rest) = first_word(text);
-    let (kind, payload) = first_word(rest);
-    let name = item_of(alloc, name)?;
-    let kind = name_of(alloc, kind)?;
-    let payload = payload_of(alloc, payload)?;
-    Ok(Item {
-        name,
-        kind,
-        payload,
-    })
 }

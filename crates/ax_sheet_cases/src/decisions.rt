@@ -1,4 +1,6 @@
-use ax_case_lines::{CaseFault, case_named, first_word, int_of, name_of, payload_of, write_either};
+use ax_case_lines::{
+    CaseFault, CaseLine, case_named, first_word, int_of, name_of, payload_of, write_either,
+};
 use ax_rules::Row;
 use ax_sheet::{Decided, Sheet, decide, fits_command};
 use ax_upcast::Event;
@@ -28,31 +30,30 @@ impl DecisionCase {
 }
 
 pub(crate) fn perform(
-    alloc: Global,
     sheet: &Sheet,
     row: &mut Row,
     case: DecisionCase,
-    rest: &[u8],
-    out: &mut Vec<u8>,
+    line: &mut CaseLine,
 ) -> Result<(), CaseFault> {
+    let (alloc, text, out) = (line.alloc, line.text.as_slice(), &mut line.out);
     match case {
-        DecisionCase::Row => *row = row_of(alloc, rest)?,
+        DecisionCase::Row => *row = row_of(alloc, text)?,
         DecisionCase::Decide => {
-            let decided = decision_of(alloc, sheet, row, rest)?;
+            let decided = decision_of(alloc, sheet, row, text)?;
             let written = write_decided(&decided, out);
             drop(decided);
             written?;
         }
         DecisionCase::Fits => {
             write_either(
-                is_fitting(alloc, sheet, rest)?,
+                is_fitting(alloc, sheet, text)?,
                 b"fits",
                 b"does not fit",
                 out,
             )?;
         }
         DecisionCase::Parts => write_parts(sheet, out)?,
-        DecisionCase::Has => write_holders(sheet, &name_of(alloc, rest)?, out)?,
+        DecisionCase::Has => write_holders(sheet, &name_of(alloc, text)?, out)?,
     }
     Ok(())
 }

@@ -13,7 +13,7 @@ mod tables;
 
 use crate::asked::{Asked, read_asked};
 use crate::sheets::Sheets;
-use ax_case_lines::{CaseFault, Cases, perform_all};
+use ax_case_lines::{CaseFault, CaseLine, Cases, perform_all};
 use ax_projections::Table;
 use ax_rules::Row;
 use ax_values::Cell;
@@ -30,35 +30,28 @@ struct SheetCases {
 }
 
 impl Cases for SheetCases {
-    fn perform(
-        &mut self,
-        alloc: Global,
-        word: &[u8],
-        rest: &[u8],
-        out: &mut Vec<u8>,
-    ) -> Result<(), CaseFault> {
+    fn start(alloc: Global) -> SheetCases {
+        SheetCases {
+            sheets: Sheets::new(alloc),
+            row: Row::new(alloc),
+            cells: Vec::new(alloc),
+            table: Table::new(alloc),
+        }
+    }
+
+    fn perform(&mut self, word: &[u8], line: &mut CaseLine) -> Result<(), CaseFault> {
         match read_asked(word).ok_or(CaseFault::Line)? {
-            Asked::Sheet(sheet) => self.sheets.perform(alloc, sheet, rest, out),
+            Asked::Sheet(sheet) => self.sheets.perform(sheet, line),
             Asked::Decision(decision) => {
-                let sheet = self.sheets.get()?;
-                decisions::perform(alloc, sheet, &mut self.row, decision, rest, out)
+                decisions::perform(self.sheets.get()?, &mut self.row, decision, line)
             }
-            Asked::Rule(rule) => rules::perform(alloc, self.sheets.get()?, rule, rest, out),
-            Asked::Row(row) => {
-                rows::perform(alloc, &mut self.cells, &self.sheets, row, rest, out)
-            }
-            Asked::Table(table) => tables::perform(alloc, &mut self.table, table, rest, out),
+            Asked::Rule(rule) => rules::perform(self.sheets.get()?, rule, line),
+            Asked::Row(row) => rows::perform(&mut self.cells, &self.sheets, row, line),
+            Asked::Table(table) => tables::perform(&mut self.table, table, line),
         }
     }
 }
 
 fn main(rt: HostRuntime) -> io::Result<()> {
-    let alloc = rt.alloc();
-    let mut cases = SheetCases {
-        sheets: Sheets::new(alloc),
-        row: Row::new(alloc),
-        cells: Vec::new(alloc),
-        table: Table::new(alloc),
-    };
-    perform_all(&rt, &mut cases)
+    perform_all::<HostRuntime, SheetCases>(&rt)
 }

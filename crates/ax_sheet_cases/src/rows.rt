@@ -1,6 +1,8 @@
 use crate::sheets::Sheets;
 use crate::tables::write_table;
-use ax_case_lines::{CaseFault, case_named, first_word, name_of, payload_of, u32_of};
+use ax_case_lines::{
+    CaseFault, CaseLine, case_named, first_word, name_of, payload_of, three_words, u32_of,
+};
 use ax_projections::rebuild;
 use ax_sheet::Sheet;
 use ax_values::{Cell, Record};
@@ -29,19 +31,18 @@ impl RowCase {
 }
 
 pub(crate) fn perform(
-    alloc: Global,
     cells: &mut Vec<Cell>,
     sheets: &Sheets,
     case: RowCase,
-    rest: &[u8],
-    out: &mut Vec<u8>,
+    line: &mut CaseLine,
 ) -> Result<(), CaseFault> {
+    let (alloc, text, out) = (line.alloc, line.text.as_slice(), &mut line.out);
     match case {
         RowCase::Cells => cells.clear(),
         RowCase::Void => cells.push(Cell::Void)?,
-        RowCase::Reserved => cells.push(reserved_cell(alloc, rest)?)?,
-        RowCase::Event => cells.push(event_cell(alloc, rest)?)?,
-        RowCase::Rebuild => write_rebuilt(alloc, cells, sheets.get()?, rest, out)?,
+        RowCase::Reserved => cells.push(reserved_cell(alloc, text)?)?,
+        RowCase::Event => cells.push(event_cell(alloc, text)?)?,
+        RowCase::Rebuild => write_rebuilt(alloc, cells, sheets.get()?, text, out)?,
     }
     Ok(())
 }
@@ -59,9 +60,7 @@ fn reserved_cell(alloc: Global, text: &[u8]) -> Result<Cell, CaseFault> {
 
 /// The event `AGGREGATE SEQ KIND PAYLOAD`.
 fn event_cell(alloc: Global, text: &[u8]) -> Result<Cell, CaseFault> {
-    let (aggregate, rest) = first_word(text);
-    let (seq, rest) = first_word(rest);
-    let (kind, payload) = first_word(rest);
+    let (aggregate, seq, kind, payload) = three_words(text);
     Ok(Cell::Event(Record {
         seq: u32_of(seq)?,
         revision: 1,

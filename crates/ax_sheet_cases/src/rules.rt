@@ -1,9 +1,10 @@
 use ax_case_lines::{
-    CaseFault, case_named, first_word, item_of, name_of, payload_of, u32_of, write_either,
+    CaseFault, CaseLine, case_named, first_word, four_words, item_of, name_of, payload_of, u32_of,
+    write_either, write_ints,
 };
 use ax_rules::{Applied, Row, Rules, Why};
 use ax_sheet::Sheet;
-use ax_values::{Duplicate, Item, NoMemory, Record, Same, write_int};
+use ax_values::{Duplicate, Item, NoMemory, Record, Same};
 use std::alloc::Global;
 
 /// What is asked of a sheet's rules and upcasters.
@@ -26,27 +27,22 @@ impl RuleCase {
     }
 }
 
-pub(crate) fn perform(
-    alloc: Global,
-    sheet: &Sheet,
-    case: RuleCase,
-    rest: &[u8],
-    out: &mut Vec<u8>,
-) -> Result<(), CaseFault> {
+pub(crate) fn perform(sheet: &Sheet, case: RuleCase, line: &mut CaseLine) -> Result<(), CaseFault> {
+    let (alloc, text, out) = (line.alloc, line.text.as_slice(), &mut line.out);
     match case {
         RuleCase::Apply => {
-            let (word, text) = first_word(rest);
-            let item = item_from(alloc, text)?;
+            let (word, rest) = first_word(text);
+            let item = item_from(alloc, rest)?;
             write_applied(alloc, rules_of(alloc, sheet, word)?, &item, out)
         }
         RuleCase::Same => {
-            let rules = rules_of(alloc, sheet, rest)?;
+            let rules = rules_of(alloc, sheet, text)?;
             let same = is_same_copied(alloc, rules)?;
             write_either(same, b"same", b"not the same", out)
         }
-        RuleCase::Why => write_read_why(alloc, rest, out),
+        RuleCase::Why => write_read_why(alloc, text, out),
         RuleCase::Upcast => {
-            let record = record_from(alloc, rest)?;
+            let record = record_from(alloc, text)?;
             Ok(write_items(alloc, sheet, &record, out)?)
         }
     }
@@ -95,11 +91,7 @@ fn write_applied(
 
 fn write_row(row: &Row, out: &mut Vec<u8>) -> Result<(), NoMemory> {
     out.extend_from_slice(b"row")?;
-    for number in row.parts() {
-        out.push(b' ')?;
-        write_int(*number, out)?;
-    }
-    Ok(())
+    write_ints(row.parts(), out)
 }
 
 fn is_same_copied(alloc: Global, rules: &Rules) -> Result<bool, NoMemory> {
@@ -144,10 +136,7 @@ fn write_copy(alloc: Global, why: &Why, out: &mut Vec<u8>) -> Result<(), NoMemor
 
 /// The record `AGGREGATE SEQ KIND REVISION PAYLOAD`.
 fn record_from(alloc: Global, text: &[u8]) -> Result<Record, CaseFault> {
-    let (aggregate, rest) = first_word(text);
-    let (seq, rest) = first_word(rest);
-    let (kind, rest) = first_word(rest);
-    let (revision, payload) = first_word(rest);
+    let (aggregate, seq, kind, revision, payload) = four_words(text);
     Ok(Record {
         seq: u32_of(seq)?,
         revision: u32_of(revision)?,

@@ -1,4 +1,4 @@
-use ax_case_lines::{CaseFault, case_named};
+use ax_case_lines::{CaseFault, CaseLine, case_named};
 use ax_sheet::{Sheet, SheetFault};
 use ax_values::{Duplicate, cut_at};
 use std::alloc::Global;
@@ -49,18 +49,17 @@ impl Sheets {
 
     pub(crate) fn perform(
         &mut self,
-        alloc: Global,
         case: SheetCase,
-        rest: &[u8],
-        out: &mut Vec<u8>,
+        line: &mut CaseLine,
     ) -> Result<(), CaseFault> {
+        let (alloc, text, out) = (line.alloc, line.text.as_slice(), &mut line.out);
         match case {
-            SheetCase::Frame => self.frame = rest.to_vec(alloc)?,
+            SheetCase::Frame => self.frame = text.to_vec(alloc)?,
             SheetCase::New => {
-                let text = framed(alloc, &self.frame, rest)?;
+                let text = framed(alloc, &self.frame, text)?;
                 self.read(alloc, &text, out)?;
             }
-            SheetCase::Text => self.read(alloc, rest, out)?,
+            SheetCase::Text => self.read(alloc, text, out)?,
             SheetCase::Cards => {
                 let cards = Sheet::cards(alloc)?;
                 self.keep(Some(cards));
@@ -71,7 +70,7 @@ impl Sheets {
                 self.keep(Some(copied));
                 write_text(alloc, self.get()?, b"", out)?;
             }
-            SheetCase::Fault => write_fault(alloc, rest, out)?,
+            SheetCase::Fault => write_fault(alloc, text, out)?,
         }
         Ok(())
     }

@@ -1,7 +1,9 @@
-use ax_case_lines::{CaseFault, case_named, first_word, int_of, name_of, u32_of};
+use ax_case_lines::{
+    CaseFault, CaseLine, case_named, int_of, name_of, two_words, u32_of, write_ints,
+};
 use ax_projections::{Positioned, Table};
 use ax_rules::Row;
-use ax_values::{Name, NoMemory, write_int, write_u32};
+use ax_values::{Name, NoMemory, write_u32};
 use std::alloc::Global;
 
 /// What is done with a table of rows.
@@ -31,22 +33,21 @@ impl TableCase {
 }
 
 pub(crate) fn perform(
-    alloc: Global,
     table: &mut Table,
     case: TableCase,
-    rest: &[u8],
-    out: &mut Vec<u8>,
+    line: &mut CaseLine,
 ) -> Result<(), CaseFault> {
+    let (alloc, text, out) = (line.alloc, line.text.as_slice(), &mut line.out);
     match case {
-        TableCase::Reserve => table.reserve(u32_of(rest)? as usize)?,
-        TableCase::Put => put(alloc, table, rest)?,
+        TableCase::Reserve => table.reserve(u32_of(text)? as usize)?,
+        TableCase::Put => put(alloc, table, text)?,
         TableCase::Rows => write_table(table, out)?,
         TableCase::Len => write_u32(table.len(), out)?,
-        TableCase::At => match table.at(u32_of(rest)?) {
+        TableCase::At => match table.at(u32_of(text)?) {
             Some((aggregate, value)) => write_row(aggregate, value, out)?,
             None => out.extend_from_slice(b"none")?,
         },
-        TableCase::Get => match table.get(&name_of(alloc, rest)?) {
+        TableCase::Get => match table.get(&name_of(alloc, text)?) {
             Some(value) => write_u32(value.position, out)?,
             None => out.extend_from_slice(b"none")?,
         },
@@ -57,8 +58,7 @@ pub(crate) fn perform(
 
 /// Puts the row `AGGREGATE POSITION FIELD`, where the table has less than 10.
 fn put(alloc: Global, table: &mut Table, text: &[u8]) -> Result<(), CaseFault> {
-    let (aggregate, rest) = first_word(text);
-    let (position, field) = first_word(rest);
+    let (aggregate, position, field) = two_words(text);
     let aggregate = name_of(alloc, aggregate)?;
     let row = row_of(alloc, u32_of(position)?, int_of(field)?)?;
     if table.len() >= 10 {
@@ -88,10 +88,7 @@ fn write_row(aggregate: &Name, value: &Positioned, out: &mut Vec<u8>) -> Result<
     aggregate.write(out)?;
     out.push(b' ')?;
     write_u32(value.position, out)?;
-    for field in value.row.parts() {
-        out.push(b' ')?;
-        write_int(*field, out)?;
-    }
+    write_ints(value.row.parts(), out)?;
     out.push(b';')?;
     Ok(())
 }

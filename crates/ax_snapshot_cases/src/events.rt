@@ -3,7 +3,7 @@ ghost use Rattle.ax_log.specs.Log.{put_at};
 ghost use Rattle.ax_log.specs.Puts.{CanPut};
 ghost use Rattle.ax_snapshot_cases.specs.Grows.{Grows};
 
-use ax_case_lines::{CaseFault, first_word, name_of, payload_of};
+use ax_case_lines::{CaseFault, name_of, payload_of, two_words};
 use ax_log::{CellPut, Log};
 use ax_values::{Duplicate, Name, NoMemory, Payload, Record};
 use std::alloc::Global;
@@ -19,8 +19,7 @@ pub(crate) struct Coming {
 
 /// The event `AGGREGATE KIND PAYLOAD`, of at most 16 fields.
 pub(crate) fn event_of(alloc: Global, text: &[u8]) -> Result<Coming, CaseFault> {
-    let (aggregate, rest) = first_word(text);
-    let (kind, payload) = first_word(rest);
+    let (aggregate, kind, payload) = two_words(text);
     let aggregate = name_of(alloc, aggregate)?;
     let kind = name_of(alloc, kind)?;
     let payload = payload_of(alloc, payload)?;

@@ -10,8 +10,7 @@ mod loads;
 mod written;
 
 use crate::events::{Coming, event_of};
-use ax_case_lines::{CaseFault, Cases, case_named, name_of, perform_all};
-use ax_rules::Rules;
+use ax_case_lines::{CaseFault, CaseLine, Cases, case_named, perform_all};
 use ax_sheet::Sheet;
 use std::alloc::Global;
 use std::io;
@@ -43,13 +42,14 @@ struct SnapshotCases {
 }
 
 impl Cases for SnapshotCases {
-    fn perform(
-        &mut self,
-        alloc: Global,
-        word: &[u8],
-        rest: &[u8],
-        out: &mut Vec<u8>,
-    ) -> Result<(), CaseFault> {
+    fn start(alloc: Global) -> SnapshotCases {
+        SnapshotCases {
+            sheet: Sheet::cards(alloc).ok(),
+            events: Vec::new(alloc),
+        }
+    }
+
+    fn perform(&mut self, word: &[u8], line: &mut CaseLine) -> Result<(), CaseFault> {
         let case = named(word).ok_or(CaseFault::Line)?;
         let sheet = self.sheet.as_ref().ok_or(CaseFault::Line)?;
         match case {
@@ -57,31 +57,16 @@ impl Cases for SnapshotCases {
                 self.events.clear();
                 Ok(())
             }
-            SnapshotCase::Event => Ok(self.events.push(event_of(alloc, rest)?)?),
-            SnapshotCase::Snapshot => {
-                let rules = balance(alloc, sheet)?;
-                written::write_taken(alloc, rules, sheet.chain(), &self.events, rest, out)
+            SnapshotCase::Event => {
+                let event = event_of(line.alloc, &line.text)?;
+                Ok(self.events.push(event)?)
             }
-            SnapshotCase::Load => {
-                let rules = balance(alloc, sheet)?;
-                written::write_loaded(alloc, rules, sheet.chain(), &self.events, rest, out)
-            }
+            SnapshotCase::Snapshot => written::write_taken(sheet, &self.events, line),
+            SnapshotCase::Load => written::write_loaded(sheet, &self.events, line),
         }
     }
 }
 
-/// The rules of the balance of gift cards.
-fn balance(alloc: Global, sheet: &Sheet) -> Result<&Rules, CaseFault> {
-    let name = name_of(alloc, b"balance")?;
-    let rules = sheet.projection(&name);
-    drop(name);
-    rules.ok_or(CaseFault::Line)
-}
-
 fn main(rt: HostRuntime) -> io::Result<()> {
-    let alloc = rt.alloc();
-    let sheet = Sheet::cards(alloc).ok();
-    let events = Vec::new(alloc);
-    let mut cases = SnapshotCases { sheet, events };
-    perform_all(&rt, &mut cases)
+    perform_all::<HostRuntime, SnapshotCases>(&rt)
 }

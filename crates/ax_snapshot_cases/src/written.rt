@@ -1,29 +1,28 @@
 use crate::events::{Coming, append_all};
 use crate::loads::{Moment, load_at};
-use ax_case_lines::{CaseFault, first_word, name_of, u32_of};
+use ax_case_lines::{CaseFault, CaseLine, first_word, name_of, two_words, u32_of, write_ints};
 use ax_log::Log;
 use ax_repo::{Snapshot, take_snapshot};
 use ax_rules::{Row, Rules};
-use ax_upcast::Chain;
-use ax_values::{NoMemory, write_int, write_number, write_u32};
+use ax_sheet::Sheet;
+use ax_values::{NoMemory, write_number, write_u32};
 use std::alloc::Global;
 
 /// The snapshot of an aggregate after all events of the list: `AGGREGATE REVISION`.
 pub(crate) fn write_taken(
-    alloc: Global,
-    rules: &Rules,
-    chain: &Chain,
+    sheet: &Sheet,
     events: &[Coming],
-    text: &[u8],
-    out: &mut Vec<u8>,
+    line: &mut CaseLine,
 ) -> Result<(), CaseFault> {
-    let (aggregate, revision) = first_word(text);
+    let alloc = line.alloc;
+    let rules = balance(alloc, sheet)?;
+    let (aggregate, revision) = first_word(&line.text);
     let revision = u32_of(revision)?;
     let aggregate = name_of(alloc, aggregate)?;
     let mut log = Log::new(alloc);
     append_all(alloc, &mut log, events)?;
-    let taken = take_snapshot(alloc, &log, rules, chain, revision, &aggregate)?;
-    Ok(write_snapshot(taken.as_ref(), out)?)
+    let taken = take_snapshot(alloc, &log, rules, sheet.chain(), revision, &aggregate)?;
+    Ok(write_snapshot(taken.as_ref(), &mut line.out)?)
 }
 
 fn write_snapshot(snapshot: Option<&Snapshot>, out: &mut Vec<u8>) -> Result<(), NoMemory> {
@@ -40,32 +39,35 @@ fn write_snapshot(snapshot: Option<&Snapshot>, out: &mut Vec<u8>) -> Result<(), 
 
 fn write_state(state: &Row, out: &mut Vec<u8>) -> Result<(), NoMemory> {
     out.extend_from_slice(b" state")?;
-    for number in state.parts() {
-        out.push(b' ')?;
-        write_int(*number, out)?;
-    }
-    Ok(())
+    write_ints(state.parts(), out)
 }
 
 /// The state of an aggregate after all events of the list, by a sheet of a revision, from a snapshot that was taken at a moment:
 /// `AGGREGATE REVISION AFTER REVISION`.
 pub(crate) fn write_loaded(
-    alloc: Global,
-    rules: &Rules,
-    chain: &Chain,
+    sheet: &Sheet,
     events: &[Coming],
-    text: &[u8],
-    out: &mut Vec<u8>,
+    line: &mut CaseLine,
 ) -> Result<(), CaseFault> {
-    let (aggregate, rest) = first_word(text);
-    let (revision, moment) = first_word(rest);
+    let alloc = line.alloc;
+    let rules = balance(alloc, sheet)?;
+    let (aggregate, revision, moment) = two_words(&line.text);
     let revision = u32_of(revision)?;
     let moment = moment_of(moment)?;
     let aggregate = name_of(alloc, aggregate)?;
+    let chain = sheet.chain();
     let loaded = load_at(alloc, rules, chain, events, &aggregate, revision, moment)?;
-    out.extend_from_slice(b"steps ")?;
-    write_number(loaded.steps, out)?;
-    Ok(write_state(&loaded.state, out)?)
+    line.out.extend_from_slice(b"steps ")?;
+    write_number(loaded.steps, &mut line.out)?;
+    Ok(write_state(&loaded.state, &mut line.out)?)
+}
+
+/// The rules of the balance of gift cards.
+fn balance(alloc: Global, sheet: &Sheet) -> Result<&Rules, CaseFault> {
+    let name = name_of(alloc, b"balance")?;
+    let rules = sheet.projection(&name);
+    drop(name);
+    rules.ok_or(CaseFault::Line)
 }
 
 /// The moment `AFTER REVISION`.

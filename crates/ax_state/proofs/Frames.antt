@@ -5,17 +5,18 @@ use Rattle.std.proofs.Common.{refl, ap, sym, ◌∙◌, subst, arith}
 use Rattle.std.proofs.lemmas.Bool.Decides.{nat_tests}
 use Rattle.std.proofs.lemmas.List.{length-set}
 use borrow.Author.Tests.{ltb-true, ltb-false}
-use Rattle.ax_values.specs.Grammar.{Name}
+use Rattle.ax_values.specs.Grammar.{Name, ItemName}
+use Rattle.ax_values.specs.Words.{rises}
 use Rattle.ax_log.specs.Log.{events}
 use Rattle.ax_log.specs.Order.{IsOrdered}
 use Rattle.ax_segments.specs.Segments.{Segment}
 use Rattle.ax_claims.specs.Rows.{TokenRow, row_at, put_row}
 use Rattle.ax_state.specs.Every.{AllFrom, count, one, option_or}
 use Rattle.ax_state.specs.Setting.{Setting, name_at, is_saga, whole_at, needs_no_gaps}
-use Rattle.ax_state.specs.State.{State, ProcessorState, Desk, Batch, desk_at, processor_state_at, empty_desk, empty_processor, actor_name, with_desk, with_cells, with_clock, with_fence, with_rows}
-use Rattle.ax_state.specs.Positions.{first_letter, drops_of}
+use Rattle.ax_state.specs.State.{State, ProcessorState, Desk, Batch, desk_at, processor_state_at, empty_desk, empty_processor, actor_name, with_state, with_desk, with_cells, with_clock, with_fence, with_rows}
+use Rattle.ax_state.specs.Positions.{first_in}
 use Rattle.ax_state.specs.Portions.{Portion, portions, covered_events}
-use Rattle.ax_state.specs.WellFormed.{IsWellFormed, AreReserved, HoldsCells, IsReservation, IsDeskOf, IsBatchIn, IsBatchAt, IsBatchRow, IsProcessorState, IsProcessorBy, IsFencedProcessor, IsOwnedRight, IsFolded, AreParts, AreTokens, IsTokenOver, TokenPrefix, HasRows, OwnsRow, OwnsAs, reserved_by, holds_cell, fence_count, has_no_gaps, has_no_replay}
+use Rattle.ax_state.specs.WellFormed.{IsWellFormed, AreReserved, HoldsCells, IsReservation, IsDeskOf, IsBatchIn, IsBatchAt, IsBatchRow, IsProcessorState, IsProcessorBy, IsFencedProcessor, IsOwnedRight, IsFolded, AreParts, AreTokens, IsTokenOver, TokenPrefix, HasRows, OwnsRow, OwnsAs, reserved_by, holds_cell, fence_count, has_no_gaps, has_no_replay, item_below}
 use Rattle.ax_state.proofs.Lists.{All-map, All-set, All-at, All-get, All-got, AllFrom-map, AllFrom-set, AllFrom-at, AllFrom-get, count-set, count-set_same, count-none, one-most, IfSome-map}
 use Rattle.ax_state.proofs.RowPuts.{found-row, put-set, put-all, put-portions, put-parts, put-same, fence_count-set, fence_count-above, fenced-later}
 use Rattle.ax_state.proofs.Coverage.{prefix-put}
@@ -42,6 +43,7 @@ kept-clock m later le limit h = record {
   processors = h.processors;
   declared = h.declared;
   actors = h.actors;
+  notices = h.notices;
   fences = h.fences;
   desks = h.desks;
   batches = h.batches;
@@ -65,6 +67,7 @@ kept-cells m later n h = record {
   processors = AllFrom-map (IsProcessorState m.setting m.cells) (IsProcessorState m.setting later) (place-later m.cells later n.growth m.setting) 0 m.processor_states h.processors;
   declared = h.declared;
   actors = h.actors;
+  notices = h.notices;
   fences = h.fences;
   desks = h.desks;
   batches = All-map (λ d. IfSome d.batch (IsBatchIn m.setting m.cells m.processor_states)) (λ d. IfSome d.batch (IsBatchIn m.setting later m.processor_states)) (λ d. batch-later m.cells later n.growth m.setting m.processor_states d.batch) m.desks h.batches;
@@ -102,6 +105,7 @@ kept-desk m actor desk n h = record {
   processors = h.processors;
   declared = h.declared;
   actors = length-set m.desks actor desk ∙ h.actors;
+  notices = h.notices;
   fences = h.fences;
   desks = AllFrom-set (λ k d. IsDeskOf m.fence m.processor_states (name_at m.setting.actors k) d) 0 m.desks actor desk h.desks (λ k e. let same : actor ≡ k = omega arith in subst (λ (i : ℕ). IsDeskOf m.fence m.processor_states (name_at m.setting.actors i) desk) same n.seat);
   batches = All-set (λ d. IfSome d.batch (IsBatchIn m.setting m.cells m.processor_states)) m.desks actor desk h.batches n.batch;
@@ -124,23 +128,24 @@ kept-fence m fence le h = record {
   processors = h.processors;
   declared = h.declared;
   actors = h.actors;
+  notices = h.notices;
   fences = record { distinct = h.fences.distinct; within = All-map (IsFencedProcessor m.fence) (IsFencedProcessor fence) (λ s k. fenced-later m.fence fence s le k) m.processor_states h.fences.within };
   desks = AllFrom-map (λ k d. IsDeskOf m.fence m.processor_states (name_at m.setting.actors k) d) (λ k d. IsDeskOf fence m.processor_states (name_at m.setting.actors k) d) (λ k d. seat-risen m.fence fence m.processor_states (name_at m.setting.actors k) d le) 0 m.desks h.desks;
   batches = h.batches;
 }
 
--- ---- the rows of one processor change, and the counter of fences may rise
+-- ---- one processor changes, and the counter of fences may rise
 
--- What is asked of the rows that a processor gets: each fence is one that stood there, or a fresh one, and with a fence that stood go its segment and owner. A batch that stands on a desk still stands.
-pub record AreNewRows (m : State) (p : ℕ) (rows : List TokenRow) (fence : ℕ) : Type 0 where
-  pub place : IsProcessorState m.setting m.cells p (record (processor_state_at m p) { rows = rows })
-  pub since : AllByRecursion (λ r. r.since ≤ m.clock) rows
+-- What is asked of the state that a processor gets: each fence of its rows is one that stood there, or a fresh one, and with a fence that stood go its segment and owner. A batch that stands on a desk still stands.
+pub record IsNewProcessor (m : State) (p : ℕ) (after : ProcessorState) (fence : ℕ) : Type 0 where
+  pub place : IsProcessorState m.setting m.cells p after
+  pub since : AllByRecursion (λ r. r.since ≤ m.clock) after.rows
   pub counter : m.fence ≤ fence
-  pub within : AllByRecursion (λ r. (0 < r.fence) × (r.fence ≤ fence)) rows
-  pub stood : (f : ℕ) → f ≤ m.fence → count (λ r. r.fence == f) rows ≤ count (λ r. r.fence == f) (processor_state_at m p).rows
-  pub fresh : (f : ℕ) → m.fence < f → count (λ r. r.fence == f) rows ≤ 1
-  pub owners : (w : Name) (q : ℕ) (t : Segment) (f : ℕ) → f ≤ m.fence → AllByRecursion (OwnsRow w q t f p) (processor_state_at m p).rows → AllByRecursion (OwnsRow w q t f p) rows
-  pub batches : (k : ℕ) (d : Desk) (b : Batch) → slice_get m.desks k ≡ Some d → d.batch ≡ Some b → AllByRecursion (IsBatchRow m.setting m.cells b) (processor_state_at m p).rows → AllByRecursion (IsBatchRow m.setting m.cells b) rows
+  pub within : AllByRecursion (λ r. (0 < r.fence) × (r.fence ≤ fence)) after.rows
+  pub stood : (f : ℕ) → f ≤ m.fence → count (λ r. r.fence == f) after.rows ≤ count (λ r. r.fence == f) (processor_state_at m p).rows
+  pub fresh : (f : ℕ) → m.fence < f → count (λ r. r.fence == f) after.rows ≤ 1
+  pub owners : (w : Name) (q : ℕ) (t : Segment) (f : ℕ) → f ≤ m.fence → AllByRecursion (OwnsRow w q t f p) (processor_state_at m p).rows → AllByRecursion (OwnsRow w q t f p) after.rows
+  pub batches : (k : ℕ) (d : Desk) (b : Batch) → slice_get m.desks k ≡ Some d → d.batch ≡ Some b → AllByRecursion (IsBatchRow m.setting m.cells b) (processor_state_at m p).rows → AllByRecursion (IsBatchRow m.setting m.cells b) after.rows
 
 -- a batch on a desk, and whose its fence is
 pub batch-owned : (m : State) (k : ℕ) (d : Desk) (b : Batch) → slice_get m.desks k ≡ Some d → d.batch ≡ Some b → IsWellFormed m → (b.fence ≤ m.fence) × OwnsAs (name_at m.setting.actors k) m.processor_states b.processor b.segment b.fence
@@ -148,10 +153,7 @@ batch-owned m k d b at has h =
     subst (λ o. IfSome o (λ b. (b.fence ≤ m.fence) × OwnsAs (name_at m.setting.actors k) m.processor_states b.processor b.segment b.fence)) has
     (AllFrom-get (λ j d. IsDeskOf m.fence m.processor_states (name_at m.setting.actors j) d) 0 m.desks k d h.desks at k (omega arith)).batch
 
-module _ (m : State) (p : ℕ) (rows : List TokenRow) (fence : ℕ) (there : slice_get m.processor_states p ≡ Some (processor_state_at m p)) (n : AreNewRows m p rows fence) (h : IsWellFormed m) where
-  abbrev after : ProcessorState
-  after = record (processor_state_at m p) { rows = rows }
-
+module _ (m : State) (p : ℕ) (after : ProcessorState) (fence : ℕ) (there : slice_get m.processor_states p ≡ Some (processor_state_at m p)) (n : IsNewProcessor m p after fence) (h : IsWellFormed m) where
   abbrev states : List ProcessorState
   states = slice_set m.processor_states p after
 
@@ -162,18 +164,18 @@ module _ (m : State) (p : ℕ) (rows : List TokenRow) (fence : ℕ) (there : sli
       by true e =
           let lt : m.fence < f = ltb-true m.fence f e in
           let none : fence_count f m.processor_states ≡ 0 = fence_count-above m.fence f m.processor_states lt h.fences.within in
-          let one : count (λ r. r.fence == f) rows ≤ 1 = n.fresh f lt in
-          let all : fence_count f states ≤ fence_count f m.processor_states + count (λ r. r.fence == f) rows = fence_count-set f m.processor_states p (processor_state_at m p) after (count (λ r. r.fence == f) rows) there (omega arith) in omega arith
+          let one : count (λ r. r.fence == f) after.rows ≤ 1 = n.fresh f lt in
+          let all : fence_count f states ≤ fence_count f m.processor_states + count (λ r. r.fence == f) after.rows = fence_count-set f m.processor_states p (processor_state_at m p) after (count (λ r. r.fence == f) after.rows) there (omega arith) in omega arith
       by false e =
           let le : f ≤ m.fence = ltb-false m.fence f e in
-          let no_more : count (λ r. r.fence == f) rows ≤ count (λ r. r.fence == f) (processor_state_at m p).rows = n.stood f le in
+          let no_more : count (λ r. r.fence == f) after.rows ≤ count (λ r. r.fence == f) (processor_state_at m p).rows = n.stood f le in
           let all : fence_count f states ≤ fence_count f m.processor_states + 0 = fence_count-set f m.processor_states p (processor_state_at m p) after 0 there (omega arith) in
           let was : fence_count f m.processor_states ≤ 1 = h.fences.distinct f pos in omega arith
 
   owns-later : (w : Name) (q : ℕ) (t : Segment) (f : ℕ) → f ≤ m.fence → OwnsAs w m.processor_states q t f → OwnsAs w states q t f
   owns-later w q t f le own =
       AllFrom-set (λ k x. AllByRecursion (OwnsRow w q t f k) x.rows) 0 m.processor_states p after own
-      (λ k e. let same : p ≡ k = omega arith in subst (λ (i : ℕ). AllByRecursion (OwnsRow w q t f i) rows) same (n.owners w q t f le (AllFrom-get (λ k x. AllByRecursion (OwnsRow w q t f k) x.rows) 0 m.processor_states p (processor_state_at m p) own there p (omega arith))))
+      (λ k e. let same : p ≡ k = omega arith in subst (λ (i : ℕ). AllByRecursion (OwnsRow w q t f i) after.rows) same (n.owners w q t f le (AllFrom-get (λ k x. AllByRecursion (OwnsRow w q t f k) x.rows) 0 m.processor_states p (processor_state_at m p) own there p (omega arith))))
 
   seat-later : (w : Name) (d : Desk) → IsDeskOf m.fence m.processor_states w d → IsDeskOf fence states w d
   seat-later w d seat = record {
@@ -194,8 +196,8 @@ module _ (m : State) (p : ℕ) (rows : List TokenRow) (fence : ℕ) (there : sli
             (λ q e of. n.batches k d b at has (AllFrom-get (IsBatchAt m.setting m.cells b) 0 m.processor_states p (processor_state_at m p) old.rows there q e of));
       }
 
-  pub kept-rows : IsWellFormed (with_fence fence (with_rows p rows m))
-  kept-rows = record {
+  pub kept-processor : IsWellFormed (with_fence fence (with_state p after m))
+  kept-processor = record {
     sheet = h.sheet;
     log = h.log;
     clock = record { limit = h.clock.limit; reserved = h.clock.reserved; kept = All-set (IsProcessorBy m.clock) m.processor_states p after h.clock.kept n.since };
@@ -203,6 +205,7 @@ module _ (m : State) (p : ℕ) (rows : List TokenRow) (fence : ℕ) (there : sli
     processors = AllFrom-set (IsProcessorState m.setting m.cells) 0 m.processor_states p after h.processors (λ k e. let same : p ≡ k = omega arith in subst (λ (i : ℕ). IsProcessorState m.setting m.cells i after) same n.place);
     declared = length-set m.processor_states p after ∙ h.declared;
     actors = h.actors;
+    notices = h.notices;
     fences = record {
       distinct = distinct;
       within = All-set (IsFencedProcessor fence) m.processor_states p after (All-map (IsFencedProcessor m.fence) (IsFencedProcessor fence) (λ s k. fenced-later m.fence fence s n.counter k) m.processor_states h.fences.within) n.within;
@@ -210,6 +213,13 @@ module _ (m : State) (p : ℕ) (rows : List TokenRow) (fence : ℕ) (there : sli
     desks = AllFrom-map (λ k d. IsDeskOf m.fence m.processor_states (name_at m.setting.actors k) d) (λ k d. IsDeskOf fence states (name_at m.setting.actors k) d) (λ k d. seat-later (name_at m.setting.actors k) d) 0 m.desks h.desks;
     batches = All-got (λ d. IfSome d.batch (IsBatchIn m.setting m.cells m.processor_states)) (λ d. IfSome d.batch (IsBatchIn m.setting m.cells states)) m.desks batches-later h.batches;
   }
+
+-- what is asked of the rows that a processor gets
+abbrev pub AreNewRows : State → ℕ → List TokenRow → ℕ → Type 0
+AreNewRows m p rows fence = IsNewProcessor m p (record (processor_state_at m p) { rows = rows }) fence
+
+pub kept-rows : (m : State) (p : ℕ) (rows : List TokenRow) (fence : ℕ) → slice_get m.processor_states p ≡ Some (processor_state_at m p) → AreNewRows m p rows fence → IsWellFormed m → IsWellFormed (with_fence fence (with_rows p rows m))
+kept-rows m p rows fence there n h = kept-processor m p (record (processor_state_at m p) { rows = rows }) fence there n h
 
 -- ---- one row of a processor changes
 
@@ -228,7 +238,7 @@ place-at m p there h = AllFrom-get (IsProcessorState m.setting m.cells) 0 m.proc
 pub record IsNewToken (setting : Setting) (cells : List Cell) (p : ℕ) (s : ProcessorState) (n : TokenRow) : Type 0 where
   pub token : IsTokenOver cells n.segment.mask n.token
   pub prefixes : TokenPrefix (whole_at setting p) (events cells) n.segment n.token
-  pub rows : HasRows setting p (covered_events (whole_at setting p) (portions (put_row n s.rows)) (events cells)) (first_letter (whole_at setting p) (record s { rows = put_row n s.rows })) (drops_of (record s { rows = put_row n s.rows }))
+  pub rows : HasRows setting p (covered_events (whole_at setting p) (portions (put_row n s.rows)) (events cells)) (first_in (whole_at setting p) s.queue) s.drops
   pub gaps : IsTrue (needs_no_gaps setting p) → IsTrue (has_no_gaps n.token)
   pub replays : IsTrue (is_saga setting p) → IsTrue (has_no_replay n.token)
 
@@ -241,6 +251,8 @@ module _ (setting : Setting) (cells : List Cell) (p : ℕ) (s : ProcessorState) 
     gaps = λ e. put-portions s.rows k r n was.parts at same (λ x. IsTrue (has_no_gaps x.token)) (was.gaps e) (t.gaps e);
     replays = λ e. put-portions s.rows k r n was.parts at same (λ x. IsTrue (has_no_replay x.token)) (was.replays e) (t.replays e);
     owners = put-all s.rows k r n was.parts at same IsOwnedRight was.owners owner;
+    parked = record { queue = was.parked.queue; drops = was.parked.drops; marks = was.parked.marks };
+    bare = record { letters = was.bare.letters; drops = was.bare.drops };
   }
 
   -- where the token stays, all stays but the owners
@@ -248,10 +260,12 @@ module _ (setting : Setting) (cells : List Cell) (p : ℕ) (s : ProcessorState) 
   place-owned token = record {
     parts = subst AreParts (sym still) was.parts;
     tokens = subst (AreTokens cells) (sym still) was.tokens;
-    folded = subst (λ (ps : List Portion). IsFolded setting (whole_at setting p) p (events cells) ps (first_letter (whole_at setting p) s) (drops_of s)) (sym still) was.folded;
+    folded = subst (λ (ps : List Portion). IsFolded setting (whole_at setting p) p (events cells) ps (first_in (whole_at setting p) s.queue) s.drops) (sym still) was.folded;
     gaps = subst (λ (ps : List Portion). IsTrue (needs_no_gaps setting p) → AllByRecursion (λ x. IsTrue (has_no_gaps x.token)) ps) (sym still) was.gaps;
     replays = subst (λ (ps : List Portion). IsTrue (is_saga setting p) → AllByRecursion (λ x. IsTrue (has_no_replay x.token)) ps) (sym still) was.replays;
     owners = put-all s.rows k r n was.parts at same IsOwnedRight was.owners owner;
+    parked = record { queue = was.parked.queue; drops = was.parked.drops; marks = was.parked.marks };
+    bare = record { letters = was.bare.letters; drops = was.bare.drops };
   }
     where
       still : portions (put_row n s.rows) ≡ portions s.rows
@@ -318,3 +332,37 @@ module _ (m : State) (p : ℕ) (s : Segment) (r n : TokenRow) (found : row_at s 
     where
       more : (f : ℕ) → count (λ x. x.fence == f) (put_row n rows) ≤ count (λ x. x.fence == f) rows + one (n.fence == f)
       more f = subst (λ xs. count (λ x. x.fence == f) xs ≤ count (λ x. x.fence == f) rows + one (n.fence == f)) (sym (put-set rows found-at.0 r n parts found-at.1 same)) (count-set (λ x. x.fence == f) rows found-at.0 n)
+
+-- ---- a policy or marks change
+
+-- where its rows, letters and drops stay, a processor may have any policy, and any marks that rise
+pub kept-marked : (m : State) (p : ℕ) (keep : Bool) (marks : List ItemName) → slice_get m.processor_states p ≡ Some (processor_state_at m p) → IsTrue (rises item_below marks) → IsWellFormed m
+    → IsWellFormed (with_state p (record (processor_state_at m p) { keep = keep; marks = marks }) m)
+kept-marked m p keep marks there rise h = kept-processor m p (record (processor_state_at m p) { keep = keep; marks = marks }) m.fence there (record {
+  place = record {
+    parts = was.parts;
+    tokens = was.tokens;
+    folded = was.folded;
+    gaps = was.gaps;
+    replays = was.replays;
+    owners = was.owners;
+    parked = record { queue = was.parked.queue; drops = was.parked.drops; marks = rise };
+    bare = record { letters = was.bare.letters; drops = was.bare.drops };
+  };
+  since = All-get (IsProcessorBy m.clock) m.processor_states p (processor_state_at m p) h.clock.kept there;
+  counter = omega arith;
+  within = fenced;
+  stood = λ f le. omega arith;
+  fresh = λ f lt. (let none : count (λ r. r.fence == f) (processor_state_at m p).rows ≡ 0 = none-above f lt in omega arith);
+  owners = λ w q t f le own. own;
+  batches = λ k d b at has old. old;
+}) h
+  where
+    was : IsProcessorState m.setting m.cells p (processor_state_at m p)
+    was = place-at m p there h
+
+    fenced : AllByRecursion (λ x. (0 < x.fence) × (x.fence ≤ m.fence)) (processor_state_at m p).rows
+    fenced = All-get (IsFencedProcessor m.fence) m.processor_states p (processor_state_at m p) h.fences.within there
+
+    none-above : (f : ℕ) → m.fence < f → count (λ x. x.fence == f) (processor_state_at m p).rows ≡ 0
+    none-above f lt = count-none (λ x. x.fence == f) (processor_state_at m p).rows (All-map (λ x. (0 < x.fence) × (x.fence ≤ m.fence)) (λ x. (x.fence == f) ≡ false) (λ x k. let most : x.fence ≤ m.fence = k.1 in grind (arith, nat_tests)) (processor_state_at m p).rows fenced)

@@ -7,7 +7,7 @@ use Rattle.ax_claims.specs.Rows.{TokenRow}
 use Rattle.ax_state.specs.Every.{count, one}
 use Rattle.ax_state.specs.Setting.{whole_at}
 use Rattle.ax_state.specs.State.{State, ProcessorState, processor_state_at, with_fence, with_rows}
-use Rattle.ax_state.specs.Positions.{first_letter, drops_of}
+use Rattle.ax_state.specs.Positions.{first_in}
 use Rattle.ax_state.specs.Portions.{portions}
 use Rattle.ax_state.specs.WellFormed.{IsWellFormed, IsProcessorState, IsProcessorBy, IsFencedProcessor, IsTokenOver, IsOwnedRight, IsBatchRow, AreParts, OwnsRow, has_no_gaps, has_no_replay}
 use Rattle.ax_state.proofs.Lists.{All-map, All-get, count-none}
@@ -53,10 +53,12 @@ module _ (m : State) (p fence : ℕ) (news later : List TokenRow) (there : slice
     parts = parts;
     tokens = All-portions (λ x. IsTokenOver m.cells x.segment.mask x.token) later
         (each (λ r. IsTokenOver m.cells r.segment.mask r.token) (λ r n. n.token.over) (All-rows (λ x. IsTokenOver m.cells x.segment.mask x.token) rows was.tokens));
-    folded = folded-same (portions rows) (portions later) same (whole_at m.setting p) m.setting p (events m.cells) (first_letter (whole_at m.setting p) (processor_state_at m p)) (drops_of (processor_state_at m p)) was.folded;
+    folded = folded-same (portions rows) (portions later) same (whole_at m.setting p) m.setting p (events m.cells) (first_in (whole_at m.setting p) (processor_state_at m p).queue) (processor_state_at m p).drops was.folded;
     gaps = λ e. All-portions (λ x. IsTrue (has_no_gaps x.token)) later (each (λ r. IsTrue (has_no_gaps r.token)) (λ r n. n.token.gaps e) (All-rows (λ x. IsTrue (has_no_gaps x.token)) rows (was.gaps e)));
     replays = λ e. All-portions (λ x. IsTrue (has_no_replay x.token)) later (each (λ r. IsTrue (has_no_replay r.token)) (λ r n. n.token.replays e) (All-rows (λ x. IsTrue (has_no_replay x.token)) rows (was.replays e)));
     owners = each IsOwnedRight (λ r n. n.owner) was.owners;
+    parked = record { queue = was.parked.queue; drops = was.parked.drops; marks = was.parked.marks };
+    bare = record { letters = was.bare.letters; drops = was.bare.drops };
   }
 
   fenced : AllByRecursion (λ r. (0 < r.fence) × (r.fence ≤ m.fence)) rows

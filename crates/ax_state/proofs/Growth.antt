@@ -10,7 +10,7 @@ use Rattle.ax_tokens.specs.Plain.{Plain}
 use Rattle.ax_tokens.specs.Tokens.{Token, plain, merged, replay, half, covers_here, covers, parts}
 use Rattle.ax_state.specs.Setting.{Setting, whole_at}
 use Rattle.ax_state.specs.State.{ProcessorState, Batch}
-use Rattle.ax_state.specs.Positions.{first_letter, drops_of}
+use Rattle.ax_state.specs.Positions.{first_in}
 use Rattle.ax_state.specs.Portions.{Portion, portions, portion_covers, covered_by, covered_events}
 use Rattle.ax_state.specs.WellFormed.{IsPlainOver, IsTokenOver, AreTokens, PassPrefix, HasRows, IsProcessorState, IsStanding, IsBatchRow, IsBatchAt, IsBatchIn}
 use Rattle.ax_state.proofs.Lists.{All-map, All-left, All-right, AllFrom-map, IfSome-map}
@@ -67,11 +67,13 @@ module _ (cells later : List Cell) (g : IsGrowth cells later) where
     tokens = All-map (λ x. IsTokenOver cells x.segment.mask x.token) (λ x. IsTokenOver later x.segment.mask x.token) (λ x. token-later x.segment.mask x.token) (portions s.rows) h.tokens;
     folded = record {
       prefixes = λ a. g.prefixes (λ i. covered_by (portions s.rows) (hash_in (whole_at setting p) a) i) (λ i. covered-settled cells (portions s.rows) (hash_in (whole_at setting p) a) i h.tokens) a (h.folded.prefixes a);
-      rows = subst (λ (cs : List Stored). HasRows setting p cs (first_letter (whole_at setting p) s) (drops_of s)) (sym (covered-later (whole_at setting p) (portions s.rows) h.tokens)) h.folded.rows;
+      rows = subst (λ (cs : List Stored). HasRows setting p cs (first_in (whole_at setting p) s.queue) s.drops) (sym (covered-later (whole_at setting p) (portions s.rows) h.tokens)) h.folded.rows;
     };
     gaps = h.gaps;
     replays = h.replays;
     owners = h.owners;
+    parked = h.parked;
+    bare = h.bare;
   }
 
   standing-later : (setting : Setting) (b : Batch) (t : Token) → IsStanding setting cells b t → IsStanding setting later b t

@@ -1,5 +1,5 @@
 -- Where the covered events of each aggregate are a prefix of its stream, positions and rows can be read off the covered events alone.
-use Rattle.std.proofs.Common.{◌≡◌, ℕ, Bool, true, false, not, List, [], ◌∷◌, ◌++◌, map, length, filter, flat_map, take, drop, find, Option, Some, if◌then◌else◌, refl, sym, ap, ◌∙◌}
+use Rattle.std.proofs.Common.{◌≡◌, ℕ, Bool, true, false, not, List, [], ◌∷◌, ◌++◌, map, length, filter, flat_map, take, drop, find, Option, Some, None, if◌then◌else◌, refl, sym, ap, ◌∙◌, subst}
 use Rattle.std.proofs.Math.Seq.{take-length}
 use Rattle.std.proofs.lemmas.Grind.{flat_map-append}
 use Rattle.std.proofs.lemmas.List.{take-append-drop}
@@ -15,9 +15,11 @@ use Rattle.ax_upcast.specs.Upcast.{upcast}
 use Rattle.ax_projections.specs.Items.{Placed, placed, placed_items, items_of, plain_items}
 use Rattle.ax_claims.specs.Rows.{TokenRow}
 use Rattle.ax_state.specs.State.{ProcessorState}
-use Rattle.ax_state.specs.Positions.{row_covers, covered_in, covered_items_in, first_letter, drops_of, position_in, row_in, undropped}
+use Rattle.ax_letters.specs.Letters.{Queue}
+use Rattle.ax_state.specs.Setting.{Setting, whole_at}
+use Rattle.ax_state.specs.Positions.{row_covers, covered_in, covered_items_in, first_in, position_in, position_with, row_in, undropped}
 use Rattle.ax_state.specs.Portions.{Portion, portion_of, portions, portion_covers, covered_by, items_in, covered_events, position_by, row_by}
-use Rattle.ax_state.specs.WellFormed.{CoverPrefix, is_prefix_test}
+use Rattle.ax_state.specs.WellFormed.{CoverPrefix, IsProcessorState, IsBare, is_prefix_test}
 use Rattle.ax_values.specs.declared.cell.Cell.{Cell}
 use Rattle.ax_values.specs.declared.item.Item.{Item}
 use Rattle.ax_upcast.specs.declared.upcaster.Upcaster.{Upcaster}
@@ -117,21 +119,48 @@ items-prefix whole chain es ps a h =
       ap (flat_map (placed_items chain)) (sym (take-append-drop n s)) ∙ flat_map-append (placed_items chain) (take n s) (drop n s) ∙ ap (λ es. flat_map (placed_items chain) es ++ flat_map (placed_items chain) (drop n s)) (sym front),
     )
 
--- ---- the law
+-- ---- where nothing is parked and nothing dropped
 
--- the position that is counted in all items is that by the covered events
-pub same-position : (whole : Option Name) (chain : List Upcaster) (cells : List Cell) (processor_state : ProcessorState) (a : Name) → position_in whole chain cells processor_state a ≡ position_by chain (covered_events whole (portions processor_state.rows) (events cells)) (first_letter whole processor_state a) a
-same-position whole chain cells processor_state a = ap length (covered-items whole chain cells processor_state.rows a)
+pub bare-first : (s : ProcessorState) → IsBare s → (whole : Option Name) (a : Name) → first_in whole s.queue a ≡ None
+bare-first s b whole a = ap (λ (q : Queue). first_in whole q a) b.letters
 
--- the row that is folded from a prefix of all items is that by the covered events
-pub same-row : (whole : Option Name) (rules : Rules) (chain : List Upcaster) (cells : List Cell) (processor_state : ProcessorState) (a : Name) → CoverPrefix whole (events cells) (portions processor_state.rows)
-    → row_in whole rules chain cells processor_state a ≡ row_by rules chain (covered_events whole (portions processor_state.rows) (events cells)) (first_letter whole processor_state a) (drops_of processor_state) a
-same-row whole rules chain cells processor_state a h =
-    ap (λ n. fold_items rules (plain_items (undropped (drops_of processor_state) (take n (items_of chain a cells))))) (same-position whole chain cells processor_state a)
-    ∙ ap (λ xs. fold_items rules (plain_items (undropped (drops_of processor_state) xs))) (ap (take (length covered)) split.1 ∙ take-front covered split.0 ∙ sym (take-length covered))
-  where
-    covered : List Placed
-    covered = items_in chain (covered_events whole (portions processor_state.rows) (events cells)) a
+-- a position is the number of covered items
+pub bare-position : (s : ProcessorState) → IsBare s → (whole : Option Name) (chain : List Upcaster) (cells : List Cell) (a : Name) → position_in whole chain cells s a ≡ length (covered_items_in whole chain cells s.rows a)
+bare-position s b whole chain cells a = ap (λ o. position_with o (items_of chain a cells) (length (covered_items_in whole chain cells s.rows a))) (bare-first s b whole a)
 
-    split : (rest : List Placed) × (items_in chain (events cells) a ≡ covered ++ rest)
-    split = items-prefix whole chain (events cells) (portions processor_state.rows) a h
+pub bare-row : (s : ProcessorState) → IsBare s → (whole : Option Name) (rules : Rules) (chain : List Upcaster) (cs : List Stored) (a : Name) → row_by rules chain cs (first_in whole s.queue a) s.drops a ≡ row_by rules chain cs None [] a
+bare-row s b whole rules chain cs a = ap (λ o. row_by rules chain cs o s.drops a) (bare-first s b whole a) ∙ ap (λ ds. row_by rules chain cs None ds a) b.drops
+
+-- ---- the law, of a processor whose state is well formed
+
+module _ (setting : Setting) (cells : List Cell) (p : ℕ) (s : ProcessorState) (h : IsProcessorState setting cells p s) where
+  abbrev whole : Option Name
+  whole = whole_at setting p
+
+  abbrev chain : List Upcaster
+  chain = setting.sheet.chain
+
+  abbrev covered : Name → List Placed
+  covered a = items_in chain (covered_events whole (portions s.rows) (events cells)) a
+
+  -- the position that is counted in all items is that by the covered events
+  pub same-position : (a : Name) → position_in whole chain cells s a ≡ position_by chain (covered_events whole (portions s.rows) (events cells)) (first_in whole s.queue a) a
+  same-position a =
+      subst (λ (q : Queue). position_with (first_in whole q a) (items_of chain a cells) (length (covered_items_in whole chain cells s.rows a)) ≡ position_with (first_in whole q a) (covered a) (length (covered a)))
+      (sym h.bare.letters) (ap length (covered-items whole chain cells s.rows a))
+
+  at-count : (a : Name) → position_in whole chain cells s a ≡ length (covered a)
+  at-count a = same-position a ∙ ap (λ (q : Queue). position_with (first_in whole q a) (covered a) (length (covered a))) h.bare.letters
+
+  by-count : (a : Name) → position_by chain (covered_events whole (portions s.rows) (events cells)) (first_in whole s.queue a) a ≡ length (covered a)
+  by-count a = ap (λ (q : Queue). position_with (first_in whole q a) (covered a) (length (covered a))) h.bare.letters
+
+  -- the row that is folded from a prefix of all items is that by the covered events
+  pub same-row : (rules : Rules) (a : Name) → row_in whole rules chain cells s a ≡ row_by rules chain (covered_events whole (portions s.rows) (events cells)) (first_in whole s.queue a) s.drops a
+  same-row rules a =
+      ap (λ n. fold_items rules (plain_items (undropped s.drops (take n (items_of chain a cells))))) (at-count a)
+      ∙ ap (λ xs. fold_items rules (plain_items (undropped s.drops xs))) (ap (take (length (covered a))) split.1 ∙ take-front (covered a) split.0 ∙ sym (take-length (covered a)))
+      ∙ ap (λ n. fold_items rules (plain_items (undropped s.drops (take n (covered a))))) (sym (by-count a))
+    where
+      split : (rest : List Placed) × (items_in chain (events cells) a ≡ covered a ++ rest)
+      split = items-prefix whole chain (events cells) (portions s.rows) a h.folded.prefixes

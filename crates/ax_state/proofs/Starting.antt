@@ -12,7 +12,7 @@ use Rattle.ax_claims.specs.Rows.{TokenRow, first_rows, starting}
 use Rattle.ax_claims.proofs.Starts.{are-starting, some-segments}
 use Rattle.ax_state.specs.Every.{AllFrom, count, one}
 use Rattle.ax_state.specs.Setting.{Setting, IsSetting, name_at}
-use Rattle.ax_state.specs.State.{Desk, empty_desk, first_processors, row_count, start}
+use Rattle.ax_state.specs.State.{Desk, empty_desk, fresh_processor, first_processors, row_count, start}
 use Rattle.ax_state.specs.WellFormed.{IsWellFormed, AreCommands, IsPlainOver, IsTokenOver, IsProcessorState, IsProcessorBy, IsFencedProcessor, IsDeskOf, IsBatchIn, HoldsCells, IsOwnedRight, holds_cell, fence_count, has_no_gaps, has_no_replay}
 use Rattle.ax_state.proofs.Lists.{All-map}
 use Rattle.ax_state.proofs.RowPuts.{All-portions, parts-of}
@@ -57,7 +57,7 @@ rows-first n fence past h p =
     let one_more : n ≡ (n - 1) + 1 = omega arith in
     are-first n 0 (n - 1) fence fence past (subst (λ (k : ℕ). IsTrue (is_power_of_two k)) one_more (power_of_count n h)) (omega arith) (omega arith) (omega arith) p
 
-place-first : (setting : Setting) (p n fence : ℕ) → IsTrue (is_segment_count n) → IsProcessorState setting [] p (record { rows = starting n fence })
+place-first : (setting : Setting) (p n fence : ℕ) → IsTrue (is_segment_count n) → IsProcessorState setting [] p (fresh_processor (starting n fence))
 place-first setting p n fence h =
     let rows : AllByRecursion (IsFirst (n - 1) fence (fence + n)) (starting n fence) = rows-first n fence (fence + n) h (omega arith) in
     record {
@@ -67,6 +67,8 @@ place-first setting p n fence h =
       gaps = λ e. All-portions (λ x. IsTrue (has_no_gaps x.token)) (starting n fence) (All-map (IsFirst (n - 1) fence (fence + n)) (λ r. IsTrue (has_no_gaps r.token)) (λ r f. f.gaps) (starting n fence) rows);
       replays = λ e. All-portions (λ x. IsTrue (has_no_replay x.token)) (starting n fence) (All-map (IsFirst (n - 1) fence (fence + n)) (λ r. IsTrue (has_no_replay r.token)) (λ r f. f.replays) (starting n fence) rows);
       owners = All-map (IsFirst (n - 1) fence (fence + n)) IsOwnedRight (λ r f. f.owner) (starting n fence) rows;
+      parked = record { queue = record { rising = refl; few = omega arith; filled = refl }; drops = refl; marks = refl };
+      bare = record { letters = refl; drops = refl };
     }
 
 -- ---- the processor_states
@@ -177,6 +179,7 @@ starts s commands h = record {
   processors = processors-first s s.processors 0 1 h.processors.counts;
   declared = processor_states-count s.processors 1;
   actors = desks-count s.actors;
+  notices = record { distinct = refl; declared = tt };
   fences = record { distinct = λ f pos. (processor_states-once f s.processors 1).most; within = processor_states-fenced s.processors 1 (row_count s.processors) h.processors.counts (omega arith) (omega arith) };
   desks = desks-empty (λ k d. IsDeskOf (row_count s.processors) (first_processors s.processors 1) (name_at s.actors k) d) (λ k. record { held = tt; batch = tt }) 0 s.actors;
   batches = each-empty (λ d. IfSome d.batch (IsBatchIn s [] (first_processors s.processors 1))) tt s.actors;

@@ -1,8 +1,8 @@
 -- Positions and rows: which items of an aggregate a processor has handled, and what they are folded to.
-use Rattle.std.specs.Prelude.{ℕ, ◌==◌, Bool, true, false, not, ◌&&◌, List, [], ◌∷◌, map, length, filter, take, Option, Some, None, Result, nat_lt}
+use Rattle.std.specs.Prelude.{ℕ, ◌==◌, Bool, true, false, not, ◌&&◌, List, [], ◌∷◌, map, length, filter, find, take, Option, Some, None, Result, nat_lt, option_map}
 use Rattle.std.specs.List.{list_all}
 use Rattle.ax_values.specs.Grammar.{Name, ItemName}
-use Rattle.ax_values.specs.Words.{same_item, contains_item, place_where}
+use Rattle.ax_values.specs.Words.{same_name, same_item, contains_item, place_where, sequence_in}
 use Rattle.ax_log.specs.Log.{aggregates, is_reserved}
 use Rattle.ax_rules.specs.Expr.{Row}
 use Rattle.ax_rules.specs.Rules.{Rules, fold_items, lenient, start_row, row_or}
@@ -11,6 +11,8 @@ use Rattle.ax_tokens.specs.Plain.{Plain}
 use Rattle.ax_tokens.specs.Tokens.{Token, covers, plain, merged, replay}
 use Rattle.ax_projections.specs.Items.{Placed, items_of, plain_items}
 use Rattle.ax_claims.specs.Rows.{TokenRow, row_serving}
+use Rattle.ax_letters.specs.Letters.{Queue, letters_of}
+use Rattle.ax_letters.specs.declared.letter.Letter.{Letter}
 use Rattle.ax_state.specs.Setting.{projection_at, whole_at}
 use Rattle.ax_state.specs.State.{State, ProcessorState, processor_state_at}
 use Rattle.ax_values.specs.declared.cell.Cell.{Cell}
@@ -46,13 +48,13 @@ covered_items_in whole chain cells rows a = filter (λ x. covered_in rows (hash_
 
 -- ---- positions and rows, of what a processor keeps
 
--- the item of an aggregate's first letter, where it has letters
-abbrev pub first_letter : Option Name → ProcessorState → Name → Option ItemName
-first_letter whole processor_state a = None
+-- the item of the first of the letters that is of the aggregate
+abbrev pub first_of : List Letter → Name → Option ItemName
+first_of ls a = option_map (λ l. l.item.name) (find (λ l. same_name l.item.name.aggregate a) ls)
 
--- the items that were dropped
-abbrev pub drops_of : ProcessorState → List ItemName
-drops_of processor_state = []
+-- the item of an aggregate's own first letter in its sequence, where it has letters
+abbrev pub first_in : Option Name → Queue → Name → Option ItemName
+first_in whole queue a = first_of (letters_of (sequence_in whole a) queue) a
 
 -- the place of an item among the items, or else a count
 abbrev pub position_with : Option ItemName → List Placed → ℕ → ℕ
@@ -61,14 +63,14 @@ position_with (Some x) items count = place_where (λ y. same_item y.item.name x)
 
 -- the place of the aggregate's first letter in its items, or the number of the covered ones
 abbrev pub position_in : Option Name → List Upcaster → List Cell → ProcessorState → Name → ℕ
-position_in whole chain cells processor_state a = position_with (first_letter whole processor_state a) (items_of chain a cells) (length (covered_items_in whole chain cells processor_state.rows a))
+position_in whole chain cells processor_state a = position_with (first_in whole processor_state.queue a) (items_of chain a cells) (length (covered_items_in whole chain cells processor_state.rows a))
 
 abbrev pub undropped : List ItemName → List Placed → List Placed
 undropped drops xs = filter (λ x. not (contains_item x.item.name drops)) xs
 
 -- the items that a row is the fold of: a prefix of the aggregate's items, less the dropped ones
 abbrev pub row_items_in : Option Name → List Upcaster → List Cell → ProcessorState → Name → List Item
-row_items_in whole chain cells processor_state a = plain_items (undropped (drops_of processor_state) (take (position_in whole chain cells processor_state a) (items_of chain a cells)))
+row_items_in whole chain cells processor_state a = plain_items (undropped processor_state.drops (take (position_in whole chain cells processor_state a) (items_of chain a cells)))
 
 abbrev pub row_in : Option Name → Rules → List Upcaster → List Cell → ProcessorState → Name → Result Row Cause
 row_in whole rules chain cells processor_state a = fold_items rules (row_items_in whole chain cells processor_state a)

@@ -1,9 +1,10 @@
 -- The state of the machine. It holds no row of a projection and no state of an aggregate: these are folds of the log.
-use Rattle.std.specs.Prelude.{ℕ, ◌+◌, List, [], ◌∷◌, map, Option, None, slice_get, slice_set}
-use Rattle.ax_values.specs.Grammar.{Name}
+use Rattle.std.specs.Prelude.{ℕ, ◌+◌, Bool, true, List, [], ◌∷◌, map, Option, None, slice_get, slice_set}
+use Rattle.ax_values.specs.Grammar.{Name, ItemName}
 use Rattle.ax_segments.specs.Segments.{Segment}
 use Rattle.ax_tokens.specs.Tokens.{Token}
 use Rattle.ax_claims.specs.Rows.{TokenRow, starting}
+use Rattle.ax_letters.specs.Letters.{Queue}
 use Rattle.ax_state.specs.Every.{option_or}
 use Rattle.ax_state.specs.Setting.{Setting, name_at}
 use Rattle.ax_values.specs.declared.cell.Cell.{Cell}
@@ -32,16 +33,32 @@ pub record Batch : Type 0 where
   pub old : Token
   pub new : Token
 
+-- a sequence of letters of a processor, which was taken under a number
+pub record Grip : Type 0 where
+  pub processor : ℕ
+  pub sequence : Name
+  pub number : ℕ
+
 pub record Desk : Type 0 where
   pub held : List Held
   pub reservation : Option Reservation
   pub batch : Option Batch
+  pub taken : Option Grip
 
 -- ---- the state
 
--- what one processor keeps
+-- What one processor keeps: how far its segments are, its letters, the items that were dropped, whether it keeps a failed item as a letter (and does not drop it), and the items that are marked. Drops and marks rise.
 pub record ProcessorState : Type 0 where
   pub rows : List TokenRow
+  pub queue : Queue
+  pub drops : List ItemName
+  pub keep : Bool
+  pub marks : List ItemName
+
+-- that an item was applied whose rule announces
+pub record Notice : Type 0 where
+  pub processor : ℕ
+  pub item : ItemName
 
 pub record State : Type 0 where
   pub setting : Setting
@@ -49,15 +66,20 @@ pub record State : Type 0 where
   pub fence : ℕ
   pub cells : List Cell
   pub processor_states : List ProcessorState
+  pub notices : List Notice
   pub desks : List Desk
 
 -- ---- parts by number
 
+-- a processor with these segments, which has handled nothing
+abbrev pub fresh_processor : List TokenRow → ProcessorState
+fresh_processor rows = record { rows = rows; queue = []; drops = []; keep = true; marks = [] }
+
 abbrev pub empty_processor : ProcessorState
-empty_processor = record { rows = [] }
+empty_processor = fresh_processor []
 
 abbrev pub empty_desk : Desk
-empty_desk = record { held = []; reservation = None; batch = None }
+empty_desk = record { held = []; reservation = None; batch = None; taken = None }
 
 abbrev pub processor_state_at : State → ℕ → ProcessorState
 processor_state_at m p = option_or empty_processor (slice_get m.processor_states p)
@@ -91,13 +113,13 @@ actor_name m actor = name_at m.setting.actors actor
 -- The token rows are numbered from 1 by processor, id and mask
 abbrev pub first_processors : List Processor → ℕ → List ProcessorState
 first_processors [] fence = []
-first_processors (q ∷ qs) fence = record { rows = starting q.segments fence } ∷ first_processors qs (fence + q.segments)
+first_processors (q ∷ qs) fence = fresh_processor (starting q.segments fence) ∷ first_processors qs (fence + q.segments)
 
 abbrev pub row_count : List Processor → ℕ
 row_count [] = 0
 row_count (q ∷ qs) = q.segments + row_count qs
 
--- no time has passed, no cell is there, each processor has its first segments, and each desk is empty
+-- no time has passed, no cell is there, each processor has its first segments and keeps failed items, there is no notice, and each desk is empty
 abbrev pub start : Setting → State
 start setting = record {
   setting = setting;
@@ -105,5 +127,6 @@ start setting = record {
   fence = row_count setting.processors;
   cells = [];
   processor_states = first_processors setting.processors 1;
+  notices = [];
   desks = map (λ actor. empty_desk) setting.actors;
 }

@@ -1,8 +1,10 @@
 -- What holds of every state that can be reached. Each part takes the values that it reads: events, portions, and not cells and rows.
 use Rattle.std.specs.Prelude.{◌≡◌, ℕ, ◌+◌, ◌^◌, ◌<◌, ◌≤◌, ◌==◌, Bool, true, false, not, ◌&&◌, ◌||◌, List, [], ◌∷◌, map, length, filter, Option, Some, None, IsOk, IsTrue, IfSome, max, nat_lt, nat_le, slice_get}
-use Rattle.std.specs.List.{AllByRecursion, list_all}
+use Rattle.std.specs.List.{AllByRecursion, list_all, list_any}
 use Rattle.ax_values.specs.Grammar.{Name, ItemName}
-use Rattle.ax_values.specs.Words.{rises}
+use Rattle.std.specs.Ordering.{is_lt}
+use Rattle.ax_values.specs.Words.{rises, same_item, item_cmp}
+use Rattle.ax_letters.specs.Letters.{IsQueue}
 use Rattle.ax_log.specs.Log.{Stored, events, stream_in, is_settled}
 use Rattle.ax_log.specs.Order.{IsOrdered, has_few_fields}
 use Rattle.ax_log.specs.Answers.{AreOf, aggregate_of}
@@ -14,8 +16,8 @@ use Rattle.ax_sheet.specs.Sheet.{Sheet, command_fits}
 use Rattle.ax_claims.specs.Rows.{TokenRow}
 use Rattle.ax_state.specs.Every.{AllFrom, count}
 use Rattle.ax_state.specs.Setting.{Setting, name_at, is_projection, is_saga, projection_at, whole_at, needs_no_gaps}
-use Rattle.ax_state.specs.State.{State, ProcessorState, Desk, Batch, Reservation}
-use Rattle.ax_state.specs.Positions.{first_letter, drops_of}
+use Rattle.ax_state.specs.State.{State, ProcessorState, Notice, Desk, Batch, Reservation}
+use Rattle.ax_state.specs.Positions.{first_in}
 use Rattle.ax_state.specs.Portions.{Portion, portions, covered_by, covered_events, row_by}
 use Rattle.ax_values.specs.declared.cell.Cell.{Cell}
 
@@ -137,14 +139,46 @@ pub record IsFolded (setting : Setting) (whole : Option Name) (p : ℕ) (es : Li
 abbrev pub IsOwnedRight : TokenRow → Type 0
 IsOwnedRight r = r.owner ≡ None → r.since ≡ 0
 
+-- ---- letters, drops and marks
+
+abbrev pub item_below : ItemName → ItemName → Bool
+item_below x y = is_lt (item_cmp x y)
+
+-- the letters are a queue; drops and marks rise by aggregate, number and part
+pub record AreParked (processor_state : ProcessorState) : Type 0 where
+  pub queue : IsQueue processor_state.queue
+  pub drops : IsTrue (rises item_below processor_state.drops)
+  pub marks : IsTrue (rises item_below processor_state.marks)
+
+-- nothing is parked and nothing dropped: no step does either yet
+pub record IsBare (processor_state : ProcessorState) : Type 0 where
+  pub letters : processor_state.queue ≡ []
+  pub drops : processor_state.drops ≡ []
+
 -- what holds of the processor_state of the processor p
 pub record IsProcessorState (setting : Setting) (cells : List Cell) (p : ℕ) (processor_state : ProcessorState) : Type 0 where
   pub parts : AreParts (portions processor_state.rows)
   pub tokens : AreTokens cells (portions processor_state.rows)
-  pub folded : IsFolded setting (whole_at setting p) p (events cells) (portions processor_state.rows) (first_letter (whole_at setting p) processor_state) (drops_of processor_state)
+  pub folded : IsFolded setting (whole_at setting p) p (events cells) (portions processor_state.rows) (first_in (whole_at setting p) processor_state.queue) processor_state.drops
   pub gaps : IsTrue (needs_no_gaps setting p) → AllByRecursion (λ x. IsTrue (has_no_gaps x.token)) (portions processor_state.rows)
   pub replays : IsTrue (is_saga setting p) → AllByRecursion (λ x. IsTrue (has_no_replay x.token)) (portions processor_state.rows)
   pub owners : AllByRecursion IsOwnedRight processor_state.rows
+  pub parked : AreParked processor_state
+  pub bare : IsBare processor_state
+
+-- ---- notices
+
+abbrev pub same_notice : Notice → Notice → Bool
+same_notice n k = (n.processor == k.processor) && same_item n.item k.item
+
+abbrev pub are_distinct : List Notice → Bool
+are_distinct [] = true
+are_distinct (n ∷ ns) = not (list_any (same_notice n) ns) && are_distinct ns
+
+-- no notice stands twice, and each is of a projection processor
+pub record AreNotices (setting : Setting) (ns : List Notice) : Type 0 where
+  pub distinct : IsTrue (are_distinct ns)
+  pub declared : AllByRecursion (λ n. IsTrue (is_projection setting n.processor)) ns
 
 -- ---- fences
 
@@ -218,6 +252,7 @@ pub record IsWellFormed (m : State) : Type 0 where
   pub processors : AllFrom (IsProcessorState m.setting m.cells) 0 m.processor_states
   pub declared : length m.processor_states ≡ length m.setting.processors
   pub actors : length m.desks ≡ length m.setting.actors
+  pub notices : AreNotices m.setting m.notices
   pub fences : AreFenced m.fence m.processor_states
   pub desks : AllFrom (λ k d. IsDeskOf m.fence m.processor_states (name_at m.setting.actors k) d) 0 m.desks
   pub batches : AllByRecursion (λ d. IfSome d.batch (IsBatchIn m.setting m.cells m.processor_states)) m.desks

@@ -7,7 +7,7 @@ use Rattle.std.proofs.lemmas.List.{map-append}
 use Rattle.ax_values.specs.Grammar.{Name}
 use Rattle.ax_values.specs.Words.{same_name}
 use Rattle.ax_laws.proofs.Options.{some-is, none-some}
-use Rattle.ax_log.specs.Log.{events}
+use Rattle.ax_log.specs.Log.{Stored, events}
 use Rattle.ax_rules.specs.Expr.{Row}
 use Rattle.ax_rules.specs.Rules.{Rules, and_then, fold_from, fold_items, start_row, row_or}
 use Rattle.ax_segments.specs.Segments.{Segment, matches}
@@ -24,7 +24,8 @@ use Rattle.ax_state.specs.Portions.{portions, covered_events, items_in, row_by}
 use Rattle.ax_state.specs.WellFormed.{IsWellFormed, IsProcessorState, IsTokenOver, TokenPrefix, IsStanding, IsBatchRow, IsBatchAt, IsBatchIn, OwnsRow, OwnsAs}
 use Rattle.ax_state.proofs.Lists.{All-get, AllFrom-get}
 use Rattle.ax_state.proofs.RowPuts.{found-row}
-use Rattle.ax_state.proofs.Prefixes.{same-row}
+use Rattle.ax_state.specs.Positions.{first_in}
+use Rattle.ax_state.proofs.Prefixes.{same-row, bare-row}
 use Rattle.ax_state.proofs.Actors.{same-actor}
 use Rattle.ax_state.proofs.Frames.{seat-at, batch-at, batch-owned, place-there, place-at, place-put, kept-held-row}
 use Rattle.ax_state.proofs.Desks.{kept-emptied}
@@ -115,11 +116,15 @@ module _ (m : State) (actor : ℕ) (b : Batch) (r : TokenRow) (found : row_at b.
   abbrev present : Name → Result Row Cause
   present a = row_by rules chain (covered_events whole (portions rows) (events m.cells)) None [] a
 
+  -- nothing is parked and nothing dropped
+  bare : (cs : List Stored) (a : Name) → row_by rules chain cs (first_in whole (processor_state_at m b.processor).queue a) (processor_state_at m b.processor).drops a ≡ row_by rules chain cs None [] a
+  bare cs a = bare-row (processor_state_at m b.processor) was.bare whole rules chain cs a
+
   pub present-is : (a : Name) → present_row m b.processor a ≡ row_or (start_row rules.fields) (present a)
-  present-is a = ap (row_or (start_row rules.fields)) (same-row whole rules chain m.cells (processor_state_at m b.processor) a was.folded.prefixes)
+  present-is a = ap (row_or (start_row rules.fields)) (same-row m.setting m.cells b.processor (processor_state_at m b.processor) was rules a ∙ bare (covered_events whole (portions rows) (events m.cells)) a)
 
   ok-row : (a : Name) → IsOk (present a)
-  ok-row a = was.folded.rows in-batch.declared a
+  ok-row a = subst IsOk (bare (covered_events whole (portions rows) (events m.cells)) a) (was.folded.rows in-batch.declared a)
 
   is-ok : (o : Result Row Cause) (start : Row) → IsOk o → o ≡ Ok (row_or start o)
   is-ok (Ok x) start k = refl
@@ -234,7 +239,7 @@ module _ (m : State) (actor : ℕ) (b : Batch) (r : TokenRow) (found : row_at b.
       (place-put m.setting m.cells b.processor (processor_state_at m b.processor) place.0 r n was place.1 refl (λ e. absurd (none-some (actor_name m actor) (sym e ∙ owner))) (record {
         token = subst (λ (t : Segment). IsTokenOver m.cells t.mask b.new) (sym place.2) standing.token;
         prefixes = subst (λ (t : Segment). TokenPrefix whole (events m.cells) t b.new) (sym place.2) standing.prefixes;
-        rows = λ e a. subst IsOk (sym (row-after a)) (apply a);
+        rows = λ e a. subst IsOk (sym (bare (covered_events whole (portions (put_row n rows)) (events m.cells)) a)) (subst IsOk (sym (row-after a)) (apply a));
         gaps = standing.gaps;
         replays = λ saga. absurd (not-both-kinds m.setting b.processor in-batch.declared saga);
       }))

@@ -23,7 +23,7 @@ use Rattle.ax_state.specs.Setting.{is_projection, projection_at, whole_at}
 use Rattle.ax_state.specs.State.{State, ProcessorState, Desk, Batch, processor_state_at, desk_at, with_desk}
 use Rattle.ax_state.specs.Answer.{Answer, answer}
 use Rattle.ax_state.specs.Portions.{portions, covered_events, items_in, row_by}
-use Rattle.ax_state.specs.WellFormed.{IsBatchIn}
+use Rattle.ax_state.specs.WellFormed.{IsBatchIn, IsBare}
 use Rattle.ax_state.proofs.Lists.{AllFrom-set}
 use Rattle.ax_state.proofs.Frames.{batch-at}
 use Rattle.ax_state.proofs.Desks.{kept-emptied}
@@ -43,7 +43,7 @@ use Rattle.ax_state.specs.Batches.{IsBasisOf, batch_of, batch_items, rising_name
 use Rattle.ax_step_work.proofs.CommitKept.{kept-installed, all-apply, added, row-after, present-is, standing}
 use Rattle.ax_step_work.proofs.NotWhole.{not-whole}
 use Rattle.ax_step_work.proofs.Folding.{share_of, present_row}
-use Rattle.ax_step_work.proofs.KeptRows.{within, same-state, n, row_now, kept-is, started, rows-bound, shares-read}
+use Rattle.ax_step_work.proofs.KeptRows.{folded-bare, within, same-state, bare, n, row_now, kept-is, started, rows-bound, shares-read}
 use Rattle.ax_step_work.proofs.Outcomes.{total-items}
 use Rattle.ax_step_work.proofs.Singles.{items}
 use Rattle.ax_step_work.proofs.Standing.{Stands, stands}
@@ -195,7 +195,7 @@ module _ (w : WorldTables) (actor : ℕ) (basis : Basis) (h : IsWorld w) (mine :
       puts = entries_after rules basis.keep basis.shares
 
       abbrev later : ProcessorTables
-      later = record { processor_state = record x.processor_state { rows = rows }; table = put_entries puts x.table }
+      later = record x { processor_state = record x.processor_state { rows = rows }; table = put_entries puts x.table }
 
       abbrev changes : List Edit
       changes = install_edits basis.processor puts rows actor desk
@@ -230,9 +230,13 @@ module _ (w : WorldTables) (actor : ℕ) (basis : Basis) (h : IsWorld w) (mine :
       abbrev folded_then : Name → ℕ → Row → Option Positioned
       folded_then a k row = if nat_lt 0 k then Some (record { position = k; row = row }) else None
 
+      bare-then : IsBare x.processor_state
+      bare-then = bare w basis.processor h batch-declared
+
       is-folded : (a : Name) → folded_row w.setting basis.processor (covered_events whole (portions rows) es) later.processor_state a ≡ folded_then a (covered a + length (share_of a xs)) (present rules x.table puts a).row
       is-folded a =
-          ap (λ o. folded_then a (length (items_in chain (covered_events whole (portions rows) es) a)) (row_or (start_row rules.fields) o)) (row-is a)
+          folded-bare w.setting basis.processor (covered_events whole (portions rows) es) later.processor_state (record { letters = bare-then.letters; drops = bare-then.drops }) a
+          ∙ ap (λ o. folded_then a (length (items_in chain (covered_events whole (portions rows) es) a)) (row_or (start_row rules.fields) o)) (row-is a)
           ∙ ap (λ k. folded_then a k (present rules x.table puts a).row) (now-covered a)
 
       table-then : IsTable w.setting es basis.processor later

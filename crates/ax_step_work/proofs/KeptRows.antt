@@ -1,5 +1,5 @@
 -- The rows that a world keeps of a projection, and what a batch of it knows.
-use Rattle.std.proofs.Common.{◌≡◌, ℕ, ◌<◌, ◌≤◌, Bool, true, false, List, [], ◌∷◌, length, map, Option, Some, None, Result, Ok, if◌then◌else◌, nat_lt, refl, sym, ap, ◌∙◌, subst, arith}
+use Rattle.std.proofs.Common.{◌≡◌, ℕ, zero, suc, ◌<◌, ◌≤◌, Bool, true, false, List, [], ◌∷◌, length, map, Option, Some, None, Result, Ok, slice_get, if◌then◌else◌, nat_lt, refl, sym, ap, ◌∙◌, subst, arith}
 use Rattle.std.specs.List.{IsDistinct, list_any}
 use Rattle.std.proofs.lemmas.Bool.Decides.{nat_tests}
 use Rattle.std.proofs.lemmas.List.{length-map}
@@ -13,18 +13,20 @@ use Rattle.ax_segments.specs.Sequences.{hash_in}
 use Rattle.ax_projections.specs.Table.{look_up}
 use Rattle.ax_projections.specs.Items.{Placed, plain_items}
 use Rattle.ax_projections.specs.Rebuild.{or_start}
+use Rattle.ax_projections.specs.declared.table.Positioned.{Positioned}
 use Rattle.ax_claims.specs.Rows.{TokenRow, row_at}
-use Rattle.ax_state.specs.Setting.{is_projection, projection_at, whole_at}
+use Rattle.ax_state.specs.Setting.{Setting, is_projection, projection_at, whole_at}
 use Rattle.ax_state.specs.State.{State, ProcessorState, Batch, processor_state_at}
 use Rattle.ax_state.specs.Portions.{portions, covered_events, items_in, row_by}
-use Rattle.ax_state.specs.WellFormed.{IsProcessorState, AreParts}
+use Rattle.ax_letters.specs.Letters.{Queue}
+use Rattle.ax_state.specs.WellFormed.{IsProcessorState, IsBare, AreParts}
 use Rattle.ax_state.specs.Batches.{batch_items, known_events, shares_of, member_of}
 use Rattle.ax_state.proofs.Lists.{AllFrom-get}
 use Rattle.ax_state.proofs.RowPuts.{found-row}
 use Rattle.ax_state.proofs.Frames.{place-there, place-at}
 use Rattle.ax_state.proofs.Grow.{events-few}
 use Rattle.ax_world.specs.WorldTables.{WorldTables, ProcessorTables, no_tables, state_of, processor_tables_at}
-use Rattle.ax_world.specs.Fits.{IsWorld, IsTable, row_if}
+use Rattle.ax_world.specs.Fits.{IsWorld, IsTable, folded_row}
 use Rattle.ax_world.proofs.Projections.{projection-within}
 use Rattle.ax_world.proofs.ProcessorStates.{get-at, processor_state-place}
 use Rattle.ax_step_work.specs.Sharing.{member_at, member_read, single_shares}
@@ -35,6 +37,16 @@ use Rattle.ax_step_work.proofs.Singles.{items, names-same, shares-single}
 use Rattle.ax_step_work.proofs.Tables.{no-items, rows-few}
 use Rattle.ax_rules.specs.declared.cause.Cause.{Cause}
 use Rattle.ax_upcast.specs.declared.upcaster.Upcaster.{Upcaster}
+
+get-map : {A B : Type 0} (f : A → B) (xs : List A) (p : ℕ) (x : A) → slice_get xs p ≡ Some x → slice_get (map f xs) p ≡ Some (f x)
+get-map f [] p x e = absurd (cc)
+get-map f (y ∷ ys) zero x e = let is : y ≡ x = cc in ap (λ z. Some (f z)) is
+get-map f (y ∷ ys) (suc p) x e = get-map f ys p x e
+
+-- a row by covered events, where nothing is parked and nothing dropped
+pub folded-bare : (setting : Setting) (p : ℕ) (cs : List Stored) (s : ProcessorState) → IsBare s → (a : Name)
+    → folded_row setting p cs s a ≡ (if nat_lt 0 (length (items_in setting.sheet.chain cs a)) then Some (record { position = length (items_in setting.sheet.chain cs a); row = row_or (start_row (projection_at setting p).fields) (row_by (projection_at setting p) setting.sheet.chain cs None [] a) }) else None)
+folded-bare setting p cs s b a = ap (λ (q : Queue). folded_row setting p cs (record s { queue = q }) a) b.letters ∙ ap (λ ds. folded_row setting p cs (record s { queue = []; drops = ds }) a) b.drops
 
 module _ (w : WorldTables) (p : ℕ) (h : IsWorld w) (declared : is_projection w.setting p ≡ true) where
   abbrev m : State
@@ -72,8 +84,18 @@ module _ (w : WorldTables) (p : ℕ) (h : IsWorld w) (declared : is_projection w
   abbrev pub row_now : Name → Result Row Cause
   row_now a = row_by rules chain (covered_events whole (portions x.processor_state.rows) es) None [] a
 
-  pub kept-is : (a : Name) → look_up a x.table ≡ row_if w.setting p (covered_events whole (portions x.processor_state.rows) es) x.processor_state a (n a)
-  kept-is a = AllFrom-get (IsTable w.setting es) 0 w.processor_tables p x h.tables (get-at no_tables w.processor_tables p within) p (omega arith) declared a
+  -- a row at a position
+  abbrev pub row_where : Name → ℕ → Option Positioned
+  row_where a k = if nat_lt 0 k then Some (record { position = k; row = row_or (start_row rules.fields) (row_now a) }) else None
+
+  pub bare : IsBare x.processor_state
+  bare = (AllFrom-get (IsProcessorState w.setting w.cells) 0 m.processor_states p x.processor_state h.state.processors
+      (get-map (λ y. y.processor_state) w.processor_tables p x (get-at no_tables w.processor_tables p within)) p (omega arith)).bare
+
+  pub kept-is : (a : Name) → look_up a x.table ≡ row_where a (n a)
+  kept-is a =
+      AllFrom-get (IsTable w.setting es) 0 w.processor_tables p x h.tables (get-at no_tables w.processor_tables p within) p (omega arith) declared a
+      ∙ folded-bare w.setting p (covered_events whole (portions x.processor_state.rows) es) x.processor_state bare a
 
   no-row : (a : Name) → n a ≡ 0 → row_now a ≡ Ok (start_row rules.fields)
   no-row a e =
@@ -95,7 +117,7 @@ module _ (w : WorldTables) (p : ℕ) (h : IsWorld w) (declared : is_projection w
 
   pub rows-bound : IsDistinct same_name (map (λ e. e.name) x.table) → length w.cells ≤ 200000 → length x.table ≤ 200000
   rows-bound d size =
-      let k : length x.table ≤ length es = rows-few es x.table d (λ a none. kept-is a ∙ ap (λ ys. row_if w.setting p (covered_events whole (portions x.processor_state.rows) es) x.processor_state a (length ys)) (no-items whole chain (portions x.processor_state.rows) a es none)) in
+      let k : length x.table ≤ length es = rows-few es x.table d (λ a none. kept-is a ∙ ap (λ ys. row_where a (length ys)) (no-items whole chain (portions x.processor_state.rows) a es none)) in
       let l : length es ≤ length w.cells = events-few 0 w.cells in omega arith
 
   -- ---- a batch whose row has its old token

@@ -1,5 +1,5 @@
 -- The loops of a commit over shares and their results.
-use Rattle.std.proofs.Common.{◌≡◌, ℕ, zero, suc, ◌+◌, ◌<◌, Bool, true, false, List, [], ◌∷◌, ◌++◌, length, map, flat_map, drop, get_or, drop-cons, Option, Some, None, find, if◌then◌else◌, refl, sym, ap, ◌∙◌, subst, arith}
+use Rattle.std.proofs.Common.{◌≡◌, ℕ, suc, ◌+◌, ◌<◌, Bool, true, false, List, [], ◌∷◌, ◌++◌, length, map, flat_map, drop, get_or, drop-cons, Option, Some, None, find, if◌then◌else◌, refl, sym, ap, ◌∙◌, arith}
 use Rattle.std.specs.List.{AllByRecursion}
 use Rattle.std.proofs.lemmas.List.{length-set}
 use Rattle.ax_values.specs.Grammar.{Name}
@@ -7,16 +7,16 @@ use Rattle.ax_rules.specs.Expr.{Row}
 use Rattle.ax_rules.specs.Rules.{Rules}
 use Rattle.ax_basis.specs.Basis.{Share, member_names, member_rows}
 use Rattle.ax_basis.specs.Outcomes.{rows_after, share_result, outcomes}
-use Rattle.ax_step_work.specs.Working.{ItemOutcome, item_outcomes, share_outcomes, is_unapplied, first_unapplied}
-use Rattle.ax_step_work.specs.Installing.{IsSingle}
+use Rattle.ax_step_work.specs.Working.{ItemOutcome, item_outcomes, share_outcomes, is_unapplied}
+use Rattle.ax_step_work.specs.Installing.{HasOneRow, IsSingle, entries_after, entries_in, outcomes_in, share_entries}
 use Rattle.ax_basis.specs.declared.item.BasisItem.{BasisItem}
 use Rattle.ax_basis.specs.declared.outcome.Outcome.{Outcome}
 use Rattle.ax_basis.specs.declared.outcome.ShareResult.{ShareResult}
 
-pub share-here : (ss : List Share) (i : ℕ) (s : Share) → i < length ss → s ≡ get_or ss i s → drop i ss ≡ s ∷ drop (i + 1) ss
-share-here ss i s lt e =
+here : {A : Type 0} (xs : List A) (i : ℕ) (x : A) → i < length xs → x ≡ get_or xs i x → drop i xs ≡ x ∷ drop (i + 1) xs
+here xs i x lt e =
     let next : suc i ≡ i + 1 = omega arith in
-    drop-cons ss i s lt ∙ ap (λ t. t ∷ drop (suc i) ss) (sym e) ∙ ap (λ n. s ∷ drop n ss) next
+    drop-cons xs i x lt ∙ ap (λ y. y ∷ drop (suc i) xs) (sym e) ∙ ap (λ n. x ∷ drop n xs) next
 
 -- ---- the first that is left
 
@@ -36,45 +36,42 @@ find-first (t ∷ ts) us = at (is_unapplied t.outcome) (find-first ts us)
     at true h = refl
     at false h = h
 
--- one share more
-pub shares-next : (rules : Rules) (keep : Bool) (ss : List Share) (i : ℕ) (s : Share) (o : Option ItemOutcome) → i < length ss → s ≡ get_or ss i s → left_of s.items (outcomes rules keep s) ≡ o
-    → first_unapplied rules keep (drop i ss) ≡ first_some o (first_unapplied rules keep (drop (i + 1) ss))
-shares-next rules keep ss i s o lt e h =
-    ap (first_unapplied rules keep) (share-here ss i s lt e) ∙ find-first (share_outcomes rules keep s) (flat_map (share_outcomes rules keep) (drop (i + 1) ss)) ∙ ap (λ o. first_some o (first_unapplied rules keep (drop (i + 1) ss))) h
+-- what is left among the shares, by the outcomes of their results
+abbrev pub left_in : List Share → List ShareResult → Option ItemOutcome
+left_in ss made = find (λ t. is_unapplied t.outcome) (outcomes_in ss made)
 
--- the result of a share stands in its place
-pub result-here : (rules : Rules) (keep : Bool) (ss : List Share) (i : ℕ) (s : Share) (made : ShareResult) → i < length ss → s ≡ get_or ss i s → made ≡ get_or (map (share_result rules keep) ss) i made → made ≡ share_result rules keep s
-result-here rules keep [] i s made lt e k = absurd (omega arith)
-result-here rules keep (t ∷ ss) zero s made lt e k = k ∙ ap (share_result rules keep) (sym e)
-result-here rules keep (t ∷ ss) (suc i) s made lt e k = result-here rules keep ss i s made (omega arith) e k
+module _ (ss : List Share) (made : List ShareResult) (i : ℕ) (s : Share) (r : ShareResult) (lt : i < length ss) (at : s ≡ get_or ss i s) (within : i < length made) (there : r ≡ get_or made i r)
+    (xs : List BasisItem) (os : List Outcome) (o : Option ItemOutcome) (items_are : xs ≡ s.items) (outcomes_are : os ≡ r.outcomes) (left : left_of xs os ≡ o) where
+  left-share : left_of s.items r.outcomes ≡ o
+  left-share = ap (left_of s.items) (sym outcomes_are) ∙ ap (λ xs. left_of xs os) (sym items_are) ∙ left
 
--- what holds of each holds of the one at a place
-pub single-here : (ss : List Share) (i : ℕ) (s : Share) → AllByRecursion IsSingle ss → i < length ss → s ≡ get_or ss i s → IsSingle s
-single-here [] i s h lt e = absurd (omega arith)
-single-here (t ∷ ss) zero s h lt e = subst IsSingle (sym e) h.0
-single-here (t ∷ ss) (suc i) s h lt e = single-here ss i s h.1 (omega arith) e
+  left-then : left_in (drop i ss) (drop i made) ≡ first_some o (left_in (drop (i + 1) ss) (drop (i + 1) made))
+  left-then =
+      ap (λ ss. left_in ss (drop i made)) (here ss i s lt at) ∙ ap (left_in (s ∷ drop (i + 1) ss)) (here made i r within there)
+      ∙ find-first (item_outcomes s.items r.outcomes) (outcomes_in (drop (i + 1) ss) (drop (i + 1) made)) ∙ ap (λ o. first_some o (left_in (drop (i + 1) ss) (drop (i + 1) made))) left-share
 
-module _ (rules : Rules) (keep : Bool) (all ss : List Share) (rs : List ShareResult) (shares_are : ss ≡ all) (results_are : rs ≡ map (share_result rules keep) all) (i : ℕ) (s : Share) (made : ShareResult)
-    (lt : i < length ss) (here : s ≡ get_or ss i s) (there : made ≡ get_or rs i made) where
-  pub made-is : made ≡ share_result rules keep s
-  made-is = result-here rules keep ss i s made lt here (there ∙ ap (λ rs. get_or rs i made) results_are ∙ ap (λ ts. get_or (map (share_result rules keep) ts) i made) (sym shares_are))
+  pub left-found : (t : ItemOutcome) → o ≡ Some t → left_in (drop i ss) (drop i made) ≡ left_in ss made → Some t ≡ left_in ss made
+  left-found t is same = sym (ap (λ o. first_some o (left_in (drop (i + 1) ss) (drop (i + 1) made))) is) ∙ sym left-then ∙ same
 
-  module _ (xs : List BasisItem) (os : List Outcome) (o : Option ItemOutcome) (items_are : xs ≡ s.items) (outcomes_are : os ≡ made.outcomes) (left : left_of xs os ≡ o) where
-    left-share : left_of s.items (outcomes rules keep s) ≡ o
-    left-share = ap (left_of s.items) (sym (outcomes_are ∙ ap (λ (r : ShareResult). r.outcomes) made-is)) ∙ ap (λ xs. left_of xs os) (sym items_are) ∙ left
+  pub left-passed : o ≡ None → left_in (drop i ss) (drop i made) ≡ left_in ss made → left_in (drop (i + 1) ss) (drop (i + 1) made) ≡ left_in ss made
+  left-passed is same = sym (ap (λ o. first_some o (left_in (drop (i + 1) ss) (drop (i + 1) made))) is) ∙ sym left-then ∙ same
 
-    left-then : first_unapplied rules keep (drop i ss) ≡ first_some o (first_unapplied rules keep (drop (i + 1) ss))
-    left-then = shares-next rules keep ss i s o lt here left-share
+-- ---- results
 
-    pub left-found : (t : ItemOutcome) → o ≡ Some t → first_unapplied rules keep (drop i ss) ≡ first_unapplied rules keep ss → Some t ≡ first_unapplied rules keep all
-    left-found t is same = sym (ap (λ o. first_some o (first_unapplied rules keep (drop (i + 1) ss))) is) ∙ sym left-then ∙ same ∙ ap (first_unapplied rules keep) shares_are
+pub left-read : (ss now : List Share) (made there : List ShareResult) → now ≡ ss → there ≡ made → left_in now there ≡ left_in ss made
+left-read ss now made there e k = ap (λ ss. left_in ss there) e ∙ ap (left_in ss) k
 
-    pub left-passed : o ≡ None → first_unapplied rules keep (drop i ss) ≡ first_unapplied rules keep ss → first_unapplied rules keep (drop (i + 1) ss) ≡ first_unapplied rules keep ss
-    left-passed is same = sym (ap (λ o. first_some o (first_unapplied rules keep (drop (i + 1) ss))) is) ∙ sym left-then ∙ same
+pub outcomes-made : (rules : Rules) (keep : Bool) (ss : List Share) → outcomes_in ss (map (share_result rules keep) ss) ≡ flat_map (share_outcomes rules keep) ss
+outcomes-made rules keep [] = refl
+outcomes-made rules keep (s ∷ ss) = ap (λ ts. share_outcomes rules keep s ++ ts) (outcomes-made rules keep ss)
+
+pub entries-made : (rules : Rules) (keep : Bool) (ss : List Share) → entries_in ss (map (share_result rules keep) ss) ≡ entries_after rules keep ss
+entries-made rules keep [] = refl
+entries-made rules keep (s ∷ ss) = ap (λ es. share_entries rules keep s ++ es) (entries-made rules keep ss)
 
 -- ---- entries
 
-pub length-rows : (rules : Rules) (names : List Name) (xs : List BasisItem) (os : List Outcome) (rows : List Row) → length (rows_after rules names xs os rows) ≡ length rows
+length-rows : (rules : Rules) (names : List Name) (xs : List BasisItem) (os : List Outcome) (rows : List Row) → length (rows_after rules names xs os rows) ≡ length rows
 length-rows rules names [] os rows = refl
 length-rows rules names (x ∷ xs) [] rows = refl
 length-rows rules names (x ∷ xs) (Outcome.Applied ∷ os) rows = length-rows rules names xs os _ ∙ length-set rows _ _
@@ -87,13 +84,10 @@ one-row (r ∷ []) h = (r, refl)
 one-row (r ∷ s ∷ rs) h = absurd (omega arith)
 
 -- a share with one member has one row
-pub single-row : (rules : Rules) (keep : Bool) (s : Share) → IsSingle s → (row : Row) × ((share_result rules keep s).rows ≡ row ∷ [])
+single-row : (rules : Rules) (keep : Bool) (s : Share) → IsSingle s → HasOneRow (share_result rules keep s)
 single-row rules keep s h =
     one-row (share_result rules keep s).rows (length-rows rules (member_names s.members) s.items (outcomes rules keep s) (member_rows s.members) ∙ ap (λ ms. length (member_rows ms)) h.1)
 
--- its row stands in its place
-pub row-there : (rules : Rules) (keep : Bool) (all ss : List Share) (rs : List ShareResult) (shares_are : ss ≡ all) (results_are : rs ≡ map (share_result rules keep) all) (i : ℕ) (s : Share) (made : ShareResult)
-    (lt : i < length ss) (here : s ≡ get_or ss i s) (there : made ≡ get_or rs i made) → AllByRecursion IsSingle all → (row : Row) × (made.rows ≡ row ∷ [])
-row-there rules keep all ss rs shares_are results_are i s made lt here there single =
-    let k = single-row rules keep s (single-here ss i s (subst (AllByRecursion IsSingle) (sym shares_are) single) lt here) in
-    (k.0, ap (λ (r : ShareResult). r.rows) (made-is rules keep all ss rs shares_are results_are i s made lt here there) ∙ k.1)
+pub single-rows : (rules : Rules) (keep : Bool) (ss : List Share) → AllByRecursion IsSingle ss → AllByRecursion HasOneRow (map (share_result rules keep) ss)
+single-rows rules keep [] h = tt
+single-rows rules keep (s ∷ ss) h = (single-row rules keep s h.0, single-rows rules keep ss h.1)

@@ -15,7 +15,8 @@ use Rattle.ax_journal.specs.declared.reply.Reply.{Reply}
 use Rattle.ax_basis.specs.declared.item.BasisItem.{BasisItem}
 use Rattle.ax_basis.specs.declared.item.Member.{Member}
 use Rattle.ax_basis.specs.declared.outcome.Outcome.{Outcome}
-use Rattle.ax_step_work.specs.Working.{ItemOutcome}
+use Rattle.ax_basis.specs.declared.outcome.ShareResult.{ShareResult}
+use Rattle.ax_step_work.specs.Working.{ItemOutcome, item_outcomes}
 
 abbrev pub tell : BasisItem → Outcome → ItemOutcome
 tell x o = record { item = x; outcome = o }
@@ -23,6 +24,12 @@ tell x o = record { item = x; outcome = o }
 -- the items of all shares
 abbrev pub share_items : List Share → List BasisItem
 share_items shares = flat_map (λ s. s.items) shares
+
+-- the items of the shares with the outcomes that results have
+abbrev pub outcomes_in : List Share → List ShareResult → List ItemOutcome
+outcomes_in [] made = []
+outcomes_in (s ∷ ss) [] = []
+outcomes_in (s ∷ ss) (r ∷ made) = item_outcomes s.items r.outcomes ++ outcomes_in ss made
 
 -- ---- rows
 
@@ -38,6 +45,16 @@ share_entries rules keep s = entries_by s.members (length s.items) (share_result
 
 abbrev pub entries_after : Rules → Bool → List Share → List Entry
 entries_after rules keep shares = flat_map (share_entries rules keep) shares
+
+-- the same, with the rows that results have
+abbrev pub entries_in : List Share → List ShareResult → List Entry
+entries_in [] made = []
+entries_in (s ∷ ss) [] = []
+entries_in (s ∷ ss) (r ∷ made) = entries_by s.members (length s.items) r.rows ++ entries_in ss made
+
+-- a result has one row
+abbrev pub HasOneRow : ShareResult → Type 0
+HasOneRow r = (row : Row) × (r.rows ≡ row ∷ [])
 
 -- a share has one member, whose position stays within bounds
 abbrev pub IsSingle : Share → Type 0
@@ -84,9 +101,10 @@ pub record IsCleared (w : WorldTables) (actor : ℕ) (d : DeskTables) : Type 0 w
 abbrev pub install_edits : ℕ → List Entry → List TokenRow → ℕ → DeskTables → List Edit
 install_edits p es rows actor desk = row_edits p es ++ Edit.SetRows p rows ∷ Edit.SetDesk actor desk ∷ []
 
-abbrev pub install_move : Rules → Basis → List TokenRow → ℕ → DeskTables → Move
-install_move rules b rows actor desk = record {
-  edits = install_edits b.processor (entries_after rules b.keep b.shares) rows actor desk;
+-- with these rows
+abbrev pub install_move : Basis → List Entry → List TokenRow → ℕ → DeskTables → Move
+install_move b es rows actor desk = record {
+  edits = install_edits b.processor es rows actor desk;
   reply = Reply.Committed (length (share_items b.shares)) 0 0;
   report = [];
 }

@@ -1,5 +1,6 @@
 ghost use Rattle.std.specs.Prelude.{◌≡◌, ◌<◌, ◌∷◌, [], length, Some, None, Ok, Err, slice_get, IfOk};
 ghost use Rattle.ax_rules.specs.Why.{why_text};
+ghost use Rattle.ax_basis.specs.Outcomes.{results_of};
 ghost use Rattle.ax_state.specs.Setting.{projection_at};
 ghost use Rattle.ax_state.specs.State.{desk_at};
 ghost use Rattle.ax_state.specs.Batches.{batch_of};
@@ -12,7 +13,7 @@ ghost use Rattle.ax_step_work.specs.Installing.{IsCleared, stored};
 
 use crate::installing::{install, store_batch};
 use crate::tally::first_unapplied;
-use ax_basis::{Basis, BasisItem, Handled, Outcome, handle};
+use ax_basis::{Basis, BasisItem, Handled, Outcome, Results, results_of};
 use ax_claims::Rows;
 use ax_journal::Reply;
 use ax_rules::Why;
@@ -32,7 +33,7 @@ pub(crate) fn commit(alloc: Global, world: &World, actor: u32) -> Result<Move, N
     }
 }
 
-/// Handles the batch of the actor's desk, and commits it.
+/// Handles the batch of the actor's desk where it stands, and commits it.
 fn commit_basis(alloc: Global, world: &World, actor: u32, basis: &Basis) -> Result<Move, NoMemory>
     requires actor { actor < length world.now.tables.setting.actors }
     requires batch { slice_get world.now.tables.bases actor ≡ Some (Some basis.now) }
@@ -41,9 +42,8 @@ fn commit_basis(alloc: Global, world: &World, actor: u32, basis: &Basis) -> Resu
     world.facts();
     let _ = &world.desk(actor).batch;
     let rules = world.projection(basis.processor);
-    let basis = basis.copy(alloc)?;
-    let handled = handle(alloc, basis, rules)?;
-    commit_with(alloc, world, actor, handled)
+    let results = results_of(alloc, rules, basis)?;
+    commit_results(alloc, world, actor, basis, results)
 }
 
 /// What the commit of a batch makes of the world: the batch of the actor's desk, which was handled by the rules of its
@@ -64,12 +64,31 @@ pub fn commit_with(
     requires rules { handled.rules ≡ projection_at world.now.tables.setting handled.basis.processor }
     ensures { IfOk result (IsMove world.now.tables (commit (state_of world.now.tables) actor)) }
 {
+    let (basis, rules, results) = handled.into_parts();
+    drop(rules);
+    let made = commit_results(alloc, world, actor, &basis, results);
+    drop(basis);
+    made
+}
+
+/// What the commit of the batch of the actor's desk makes of the world: these results are what the rules of its processor
+/// make of it.
+fn commit_results(
+    alloc: Global,
+    world: &World,
+    actor: u32,
+    basis: &Basis,
+    results: Results,
+) -> Result<Move, NoMemory>
+    requires actor { actor < length world.now.tables.setting.actors }
+    requires batch { slice_get world.now.tables.bases actor ≡ Some (Some basis.now) }
+    requires results { results ≡ results_of (projection_at world.now.tables.setting basis.now.processor) basis.now }
+    ensures { IfOk result (IsMove world.now.tables (commit (state_of world.now.tables) actor)) }
+{
     world.facts();
     let _ = &world.desk(actor).batch;
     let desk = without_batch(alloc, world, actor)?;
-    let made = commit_handled(alloc, world, actor, &handled, desk);
-    drop(handled);
-    made
+    commit_over(alloc, world, actor, basis, results, desk)
 }
 
 /// The desk of the actor without its batch.
@@ -80,25 +99,28 @@ fn without_batch(alloc: Global, world: &World, actor: u32) -> Result<Desk, NoMem
     world.desk(actor).with_batch(alloc, None)
 }
 
-fn commit_handled(
+fn commit_over(
     alloc: Global,
     world: &World,
     actor: u32,
-    handled: &Handled,
+    basis: &Basis,
+    results: Results,
     desk: Desk,
 ) -> Result<Move, NoMemory>
     requires actor { actor < length world.now.tables.desks }
-    requires batch { slice_get world.now.tables.bases actor ≡ Some (Some handled.now.basis) }
-    requires mine { (desk_at (state_of world.now.tables) actor).batch ≡ Some (batch_of handled.now.basis) }
-    requires rules { handled.now.rules ≡ projection_at world.now.tables.setting handled.now.basis.processor }
+    requires batch { slice_get world.now.tables.bases actor ≡ Some (Some basis.now) }
+    requires mine { (desk_at (state_of world.now.tables) actor).batch ≡ Some (batch_of basis.now) }
+    requires results { results ≡ results_of (projection_at world.now.tables.setting basis.now.processor) basis.now }
     requires desk { IsCleared world.now.tables actor desk }
-    ensures { IfOk result (IsMove world.now.tables (commit_batch (state_of world.now.tables) actor (Some (batch_of handled.now.basis)))) }
+    ensures { IfOk result (IsMove world.now.tables (commit_batch (state_of world.now.tables) actor (Some (batch_of basis.now)))) }
 {
     let now = world.clock();
-    let basis = handled.basis();
     match store_batch(alloc, world.rows(basis.processor), now, basis)? {
-        Ok(rows) => commit_rows(alloc, world, actor, handled, rows, desk),
-        Err(reply) => give_up(alloc, actor, desk, reply),
+        Ok(rows) => commit_rows(alloc, world, actor, basis, results, rows, desk),
+        Err(reply) => {
+            drop(results);
+            give_up(alloc, actor, desk, reply)
+        }
     }
 }
 
@@ -107,28 +129,31 @@ fn commit_rows(
     alloc: Global,
     world: &World,
     actor: u32,
-    handled: &Handled,
+    basis: &Basis,
+    results: Results,
     rows: Rows,
     desk: Desk,
 ) -> Result<Move, NoMemory>
     requires actor { actor < length world.now.tables.desks }
-    requires batch { slice_get world.now.tables.bases actor ≡ Some (Some handled.now.basis) }
-    requires mine { (desk_at (state_of world.now.tables) actor).batch ≡ Some (batch_of handled.now.basis) }
-    requires rules { handled.now.rules ≡ projection_at world.now.tables.setting handled.now.basis.processor }
-    requires rows { Ok rows ≡ stored world.now.tables.clock (batch_of handled.now.basis) (rows_at world.now.tables handled.now.basis.processor) }
+    requires batch { slice_get world.now.tables.bases actor ≡ Some (Some basis.now) }
+    requires mine { (desk_at (state_of world.now.tables) actor).batch ≡ Some (batch_of basis.now) }
+    requires results { results ≡ results_of (projection_at world.now.tables.setting basis.now.processor) basis.now }
+    requires rows { Ok rows ≡ stored world.now.tables.clock (batch_of basis.now) (rows_at world.now.tables basis.now.processor) }
     requires desk { IsCleared world.now.tables actor desk }
-    ensures { IfOk result (IsMove world.now.tables (commit_batch (state_of world.now.tables) actor (Some (batch_of handled.now.basis)))) }
+    ensures { IfOk result (IsMove world.now.tables (commit_batch (state_of world.now.tables) actor (Some (batch_of basis.now)))) }
 {
     world.facts();
     let _ = world.sheet().chain().parts();
-    let _ = world.table(handled.basis().processor).len();
-    match first_unapplied(handled) {
+    let _ = world.table(basis.processor).len();
+    match first_unapplied(basis.shares.parts(), results.parts()) {
         Some((item, outcome)) => {
             drop(rows);
             drop(desk);
-            not_applied(alloc, item, outcome)
+            let made = not_applied(alloc, item, outcome);
+            drop(results);
+            made
         }
-        None => install(alloc, actor, handled, rows, desk),
+        None => install(alloc, actor, basis, results, rows, desk),
     }
 }
 

@@ -1,4 +1,6 @@
-ghost use Rattle.std.specs.Prelude.{◌≡◌, ◌<◌, length, Some, IfOk, IsTrue};
+ghost use Rattle.std.specs.Prelude.{◌≡◌, ◌<◌, filter, length, None, Some, IfOk, IsTrue};
+ghost use Rattle.ax_log.specs.Log.{events};
+ghost use Rattle.ax_state.specs.Batches.{is_fetched};
 ghost use Rattle.ax_claims.specs.Rows.{row_at};
 ghost use Rattle.ax_state.specs.Setting.{is_projection};
 ghost use Rattle.ax_state.specs.State.{desk_at};
@@ -12,7 +14,6 @@ ghost use Rattle.ax_step_work.specs.Sharing.{read_shares, taken};
 use crate::bound::fetched_token;
 use crate::gathering::fetched_items;
 use crate::sharing::shares_of;
-use crate::walk::count_fetched;
 use ax_basis::{Basis, Shares};
 use ax_claims::TokenRow;
 use ax_journal::Reply;
@@ -65,8 +66,7 @@ fn fetch_row(
     world.facts();
     let cells = world.log().cells();
     let new = fetched_token(alloc, None, row.segment, &row.token, cells, most)?;
-    let records = count_fetched(None, row.segment, &row.token, &new, cells);
-    let shares = gather(alloc, world, processor, row.segment, &row.token, &new)?;
+    let (shares, records) = gather(alloc, world, processor, row.segment, &row.token, &new)?;
     let old = row.token.copy(alloc)?;
     let basis = Basis {
         processor,
@@ -83,7 +83,8 @@ fn fetch_row(
     Ok(Move::of(alloc, edits, Reply::Fetched { records }))
 }
 
-/// The items that the new token covers and the old one does not, by aggregate, with the rows that are kept.
+/// The items that the new token covers and the old one does not, by aggregate, with the rows that are kept, and of how many
+/// records they are.
 fn gather(
     alloc: Global,
     world: &World,
@@ -91,13 +92,16 @@ fn gather(
     segment: Segment,
     old: &Token,
     new: &Token,
-) -> Result<Shares, NoMemory>
+) -> Result<(Shares, u32), NoMemory>
     requires { IsTrue (is_projection world.now.tables.setting processor) }
-    ensures { IfOk result (λ shares. shares ≡ read_shares world.now.tables processor (taken segment (token_of old.now) (token_of new.now))) }
+    ensures shares { IfOk result (λ made. made.0 ≡ read_shares world.now.tables processor (taken segment (token_of old.now) (token_of new.now))) }
+    ensures records { IfOk result (λ made. made.1 ≡ length (filter (is_fetched None segment (token_of old.now) (token_of new.now)) (events world.now.tables.cells))) }
 {
     world.facts();
     let chain = world.sheet().chain();
-    let items = fetched_items(alloc, chain, segment, old, new, world.log().cells())?;
+    let cells = world.log().cells();
+    let (items, records) = fetched_items(alloc, chain, segment, old, new, cells)?;
     let rules = world.projection(processor);
-    shares_of(alloc, rules, world.table(processor), items)
+    let shares = shares_of(alloc, rules, world.table(processor), items)?;
+    Ok((shares, records))
 }

@@ -10,7 +10,6 @@ mod reach;
 mod sharing;
 mod steps;
 mod tally;
-mod walk;
 
 pub use committing::commit_with;
 pub use steps::step;

@@ -11,6 +11,7 @@ use ax_projections::{Positioned, Table};
 use ax_rules::Rules;
 use ax_values::{Duplicate, Marks, Name, NoMemory, Seen};
 use std::alloc::Global;
+use std::cmp::Ordering;
 
 /// The items by aggregate, each with the row that is kept of it, or the first values.
 pub(crate) fn shares_of(
@@ -49,8 +50,24 @@ fn add_item(
     }
 }
 
-/// Where the share of an aggregate stands, or else where it would stand.
+/// Where the share of an aggregate stands, or else where it would stand. An item mostly is of the last share or of a new last
+/// one: so the last is looked at first.
 fn place_of(shares: &[Share], aggregate: &Name) -> Result<usize, usize>
+    requires { IsTrue (rises share_below shares.now) }
+    ensures { IsPlaceOf aggregate.now shares.now result }
+{
+    let Some(last) = shares.last() else {
+        return Err(0);
+    };
+    match last.sequence.cmp(aggregate) {
+        Ordering::Less => Err(shares.len()),
+        Ordering::Equal => Ok(shares.len() - 1),
+        Ordering::Greater => place_among(shares, aggregate),
+    }
+}
+
+/// The same, by halves.
+fn place_among(shares: &[Share], aggregate: &Name) -> Result<usize, usize>
     requires { IsTrue (rises share_below shares.now) }
     ensures { IsPlaceOf aggregate.now shares.now result }
 {
@@ -71,15 +88,15 @@ fn new_share(alloc: Global, rules: &Rules, kept: &Table, item: BasisItem) -> Res
     let aggregate = &item.item.name.aggregate;
     let member = read_member(alloc, rules, kept, aggregate)?;
     let sequence = aggregate.copy(alloc)?;
-    let mut members = Members::new(alloc);
+    let mut members = Vec::with_capacity(alloc, 1)?;
     members.push(member)?;
-    let mut items = BasisItems::new(alloc);
+    let mut items = Vec::with_capacity(alloc, 1)?;
     items.push(item)?;
     Ok(Share {
         sequence,
         parked: false,
-        members,
-        items,
+        members: Members::of(members),
+        items: BasisItems::of(items),
     })
 }
 

@@ -1,18 +1,21 @@
 ghost use Rattle.std.specs.Prelude.{◌≡◌, ◌≤◌, find, length, option_map};
-ghost use Rattle.ax_step_work.specs.Working.{first_unapplied, is_unapplied, item_outcomes};
-ghost use Rattle.ax_step_work.specs.Installing.{share_items, tell};
+ghost use Rattle.ax_step_work.specs.Working.{is_unapplied, item_outcomes};
+ghost use Rattle.ax_step_work.specs.Installing.{outcomes_in, share_items, tell};
 
-use ax_basis::{BasisItem, Handled, Outcome, Share};
+use ax_basis::{BasisItem, Outcome, Share, ShareResult};
 
 /// The first item that is not applied, by sequence, then in the order of the sequence's items, with its outcome.
-pub(crate) fn first_unapplied(handled: &Handled) -> Option<(&BasisItem, &Outcome)>
-    ensures { option_map (λ left. tell left.0.now left.1.now) result ≡ first_unapplied handled.now.rules handled.now.basis.keep handled.now.basis.shares }
+pub(crate) fn first_unapplied<'a>(
+    shares: &'a [Share],
+    results: &'a [ShareResult],
+) -> Option<(&'a BasisItem, &'a Outcome)>
+    ensures { option_map (λ left. tell left.0.now left.1.now) result ≡ find (λ t. is_unapplied t.outcome) (outcomes_in shares.now results.now) }
 {
-    let shares = handled.basis().shares.parts();
-    let results = handled.results().parts();
     for (place, share) in shares.iter().enumerate() {
-        let outcomes = results[place].outcomes.parts();
-        if let Some(left) = left_among(share.items.parts(), outcomes) {
+        let Some(made) = results.get(place) else {
+            return None;
+        };
+        if let Some(left) = left_among(share.items.parts(), made.outcomes.parts()) {
             return Some(left);
         }
     }

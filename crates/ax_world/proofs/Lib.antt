@@ -1,4 +1,5 @@
 pub mod OneProcessorChanges
+pub mod Wholes
 pub mod Rooms
 pub mod Starts
 pub mod StepMoves

@@ -16,6 +16,7 @@ use Rattle.ax_world.specs.WorldTables.{WorldTables, ProcessorTables, state_of}
 use Rattle.ax_world.specs.EditsApplied.{edits_applied}
 use Rattle.ax_world.specs.Fits.{IsWorld, IsTable, CanMakeAll, is_cells, folded_row}
 use Rattle.ax_world.specs.Moves.{IsMove}
+use Rattle.ax_world.proofs.Wholes.{wholes-kept}
 use Rattle.ax_world.specs.declared.edit.Edit.{Edit}
 use Rattle.ax_journal.specs.declared.reply.Reply.{Reply}
 use Rattle.ax_values.specs.declared.cell.Cell.{Cell}
@@ -34,6 +35,7 @@ moved w es a reply h single can state kept setting tables bases r report = recor
     world = record {
       setting = rw setting h.setting;
       state = subst IsWellFormed (sym state) kept;
+      wholes = wholes-kept es w h.wholes;
       tables = rw setting tables;
       bases = rw setting bases;
     };

@@ -4,7 +4,7 @@ ghost use Rattle.ax_world.specs.Holding.{is_held_at};
 
 use ax_basis::Basis;
 use ax_segments::Segment;
-use ax_values::{Duplicate, ListOf, NoMemory, Records};
+use ax_values::{Duplicate, ListOf, Name, NoMemory, Records};
 use std::alloc::Global;
 use std::marker::Model;
 
@@ -26,12 +26,23 @@ pub struct Reservation {
     pub records: Records,
 }
 
-/// What one actor holds: the fences of its claims, the cells that it has reserved, and the batch that it has fetched.
+/// A sequence of letters that was taken to handle them again.
+#[derive(Drop)]
+pub struct Grip {
+    pub processor: u32,
+    pub sequence: Name,
+    /// The number of the take. A later take of the same sequence has another.
+    pub number: u64,
+}
+
+/// What one actor holds: the fences of its claims, the cells that it has reserved, the batch that it has fetched, and the
+/// sequence of letters that it has taken.
 #[derive(Drop)]
 pub struct Desk {
     pub held: HeldList,
     pub reservation: Option<Reservation>,
     pub batch: Option<Basis>,
+    pub taken: Option<Grip>,
 }
 
 impl Model for Held {
@@ -50,6 +61,14 @@ impl Model for Reservation {
     ghost view = { λ held. record { first = held.first; first_seq = held.first_seq; records = held.records } };
 }
 
+impl Model for Grip {
+    ghost use Rattle.ax_state.specs.State.{Grip as Kept};
+
+    ghost Value = { Kept };
+
+    ghost view = { λ grip. record { processor = grip.processor; sequence = grip.sequence; number = grip.number } };
+}
+
 impl Model for Desk {
     ghost use Rattle.std.specs.Coded.{codes};
     ghost use Rattle.ax_tokens.specs.TokenCode.{coded_token};
@@ -59,7 +78,7 @@ impl Model for Desk {
 
     ghost coded = { Prim.hlevel (codes, coded_token) };
 
-    ghost view = { λ desk. record { held = desk.held; reservation = desk.reservation; batch = desk.batch } };
+    ghost view = { λ desk. record { held = desk.held; reservation = desk.reservation; batch = desk.batch; taken = desk.taken } };
 }
 
 impl Held {
@@ -91,12 +110,23 @@ impl Duplicate for Reservation {
     }
 }
 
+impl Duplicate for Grip {
+    fn copy(&self, alloc: Global) -> Result<Grip, NoMemory> {
+        Ok(Grip {
+            processor: self.processor,
+            sequence: self.sequence.copy(alloc)?,
+            number: self.number,
+        })
+    }
+}
+
 impl Duplicate for Desk {
     fn copy(&self, alloc: Global) -> Result<Desk, NoMemory> {
         Ok(Desk {
             held: self.held.copy(alloc)?,
             reservation: self.reservation.copy(alloc)?,
             batch: self.batch.copy(alloc)?,
+            taken: self.taken.copy(alloc)?,
         })
     }
 }
@@ -110,6 +140,7 @@ impl Desk {
             held: HeldList::new(alloc),
             reservation: None,
             batch: None,
+            taken: None,
         }
     }
 
@@ -125,6 +156,7 @@ impl Desk {
             held: self.held.copy(alloc)?,
             reservation,
             batch: self.batch.copy(alloc)?,
+            taken: self.taken.copy(alloc)?,
         })
     }
 
@@ -136,6 +168,7 @@ impl Desk {
             held,
             reservation: self.reservation.copy(alloc)?,
             batch: self.batch.copy(alloc)?,
+            taken: self.taken.copy(alloc)?,
         })
     }
 
@@ -147,6 +180,19 @@ impl Desk {
             held: self.held.copy(alloc)?,
             reservation: self.reservation.copy(alloc)?,
             batch,
+            taken: self.taken.copy(alloc)?,
+        })
+    }
+
+    /// A copy with another sequence of letters taken, or none.
+    pub fn with_taken(&self, alloc: Global, taken: Option<Grip>) -> Result<Desk, NoMemory>
+        ensures { IfOk result (λ desk. desk ≡ record self.now { taken = taken }) }
+    {
+        Ok(Desk {
+            held: self.held.copy(alloc)?,
+            reservation: self.reservation.copy(alloc)?,
+            batch: self.batch.copy(alloc)?,
+            taken,
         })
     }
 }

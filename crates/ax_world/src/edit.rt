@@ -5,7 +5,7 @@ use ax_claims::Rows;
 use ax_journal::{Lines, Reply};
 use ax_log::CellPuts;
 use ax_projections::Positioned;
-use ax_values::{ListOf, Name};
+use ax_values::{ItemName, ListOf, Name};
 use std::alloc::Global;
 
 /// One change of the world.
@@ -26,6 +26,21 @@ pub enum Edit {
         processor: u32,
         aggregate: Name,
         value: Positioned,
+    },
+    /// Whether the processor keeps a failed item as a letter, or else drops it.
+    SetPolicy {
+        processor: u32,
+        keep: bool,
+    },
+    /// Marks an item, so that it fails in the processor. Where it is marked, it stays so.
+    PutMark {
+        processor: u32,
+        item: ItemName,
+    },
+    /// Takes the mark of an item away. Where it has none, nothing changes.
+    RemoveMark {
+        processor: u32,
+        item: ItemName,
     },
     SetDesk {
         actor: u32,

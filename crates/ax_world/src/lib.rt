@@ -4,13 +4,17 @@
 mod desk;
 mod edit;
 mod holding;
+mod marks;
 mod named;
+mod notice;
 mod parts;
 mod place;
+mod places;
 mod start;
 mod world;
 
-pub use desk::{Desk, Held, HeldList, Reservation};
+pub use desk::{Desk, Grip, Held, HeldList, Reservation};
 pub use edit::{Edit, Edits, Move};
 pub use holding::{held_check, held_fence};
+pub use notice::Notice;
 pub use world::World;

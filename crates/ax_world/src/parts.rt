@@ -2,13 +2,14 @@ ghost use Rattle.std.specs.Prelude.{◌≡◌, ℕ, ◌+◌, ◌^◌, ◌<◌, �
 ghost use Rattle.std.specs.List.{AllByRecursion};
 ghost use Rattle.ax_log.specs.Puts.{CanPutAll, HasRoom as HasLogRoom, IsKept, put_all};
 ghost use Rattle.ax_state.specs.Every.{count, one};
-ghost use Rattle.ax_world.specs.WorldTables.{rows_room};
+ghost use Rattle.ax_world.specs.WorldTables.{room_at};
 ghost use Rattle.ax_world.specs.EditsApplied.{edit_applied, edits_applied};
-ghost use Rattle.ax_world.specs.Fits.{CanMake, CanMakeAll, HasCells, HasRoom, Leaves, is_cells, puts_row};
+ghost use Rattle.ax_world.specs.Fits.{CanMake, CanMakeAll, HasCells, HasRoom, Leaves, is_cells, puts_mark, puts_row};
 
 use crate::desk::set_desk;
-use crate::place::{ProcessorTables, put_row, reserve_rows, set_rows};
-use crate::{Desk, Edit, Edits};
+use crate::place::ProcessorTables;
+use crate::places::{put_mark, put_row, remove_mark, reserve_entries, set_policy, set_rows};
+use crate::{Desk, Edit, Edits, Notice};
 use ax_log::{CellPuts, Log};
 use ax_sheet::{Processors, Sheet};
 use ax_values::{Names, NoMemory};
@@ -24,6 +25,7 @@ pub(crate) struct Parts {
     pub(crate) fence: u64,
     pub(crate) log: Log,
     pub(crate) processor_tables: Vec<ProcessorTables>,
+    pub(crate) notices: Vec<Notice>,
     pub(crate) desks: Vec<Desk>,
 }
 
@@ -45,10 +47,11 @@ impl Model for Parts {
         fence = w.fence;
         cells = w.log.cells;
         processor_tables = map (λ x. x.place) w.processor_tables.items;
+        notices = w.notices.items;
         desks = map desk_of w.desks.items;
         bases = map (λ desk. desk.batch) w.desks.items;
       };
-      room = record { log = w.log.room; rows = map (λ x. x.room) w.processor_tables.items };
+      room = record { log = w.log.room; processors = map (λ x. x.room) w.processor_tables.items };
     } };
 }
 
@@ -57,7 +60,8 @@ impl Parts {
     fn make(&mut self, edit: Edit)
         requires can { CanMake self.old.tables edit }
         requires cells { HasCells self.old.room.log edit }
-        requires rows { (q : ℕ) → one (puts_row q edit) ≤ rows_room self.old.room q }
+        requires rows { (q : ℕ) → one (puts_row q edit) ≤ (room_at self.old.room q).rows }
+        requires marks { (q : ℕ) → one (puts_mark q edit) ≤ (room_at self.old.room q).marks }
         ensures tables { self.new.tables ≡ edit_applied self.old.tables edit }
         ensures room { Leaves self.old.room self.new.room edit }
     {
@@ -75,6 +79,21 @@ impl Parts {
                 aggregate,
                 value,
             } => put_row(&mut self.processor_tables, processor, aggregate, value),
+            Edit::SetPolicy { processor, keep } => set_policy(
+                &mut self.processor_tables,
+                processor,
+                keep,
+            ),
+            Edit::PutMark { processor, item } => put_mark(
+                &mut self.processor_tables,
+                processor,
+                item,
+            ),
+            Edit::RemoveMark { processor, item } => remove_mark(
+                &mut self.processor_tables,
+                processor,
+                &item,
+            ),
             Edit::SetDesk { actor, desk } => set_desk(&mut self.desks, actor, desk),
         }
     }
@@ -101,7 +120,7 @@ impl Parts {
         ensures room { OnOk result (HasRoom self.new.room edits.now) }
     {
         reserve_cells(&mut self.log, edits)?;
-        reserve_rows(&mut self.processor_tables, edits)
+        reserve_entries(&mut self.processor_tables, edits)
     }
 }
 

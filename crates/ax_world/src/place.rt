@@ -1,24 +1,30 @@
-ghost use Rattle.std.specs.Prelude.{◌≡◌, ℕ, ◌+◌, ◌^◌, ◌<◌, ◌≤◌, ◌==◌, map, length, OnOk};
-ghost use Rattle.ax_projections.specs.Table.{put_entry};
-ghost use Rattle.ax_state.specs.Every.{count, one};
-ghost use Rattle.ax_world.specs.WorldTables.{processor_tables_in, room_in};
-ghost use Rattle.ax_world.specs.EditsApplied.{with_state, rows_set, row_put};
-ghost use Rattle.ax_world.specs.Fits.{HasPlaceFor, puts_row};
+ghost use Rattle.std.specs.Prelude.{◌≡◌, ◌+◌, ◌-◌, ◌<◌, ◌≤◌, OnOk};
+ghost use Rattle.ax_world.specs.EditsApplied.{rows_set, row_put, policy_set, mark_put, mark_removed};
+ghost use Rattle.ax_world.specs.Fits.{HasMarksInOrder, HasPlaceFor};
 
-use crate::Edit;
+use crate::marks::{put_mark, remove_mark};
 use ax_claims::Rows;
+use ax_letters::Queue;
 use ax_projections::{Positioned, Table};
-use ax_values::{Name, NoMemory};
+use ax_values::{ItemName, Name, NoMemory};
 use std::marker::Model;
 
-/// What is kept of one processor: how far its segments are, and the rows of its aggregates.
+/// What is kept of one processor: how far its segments are, its letters, the items that were dropped, whether it keeps a
+/// failed item as a letter, the items that are marked to fail, and the rows of its aggregates.
 #[derive(Drop)]
 pub(crate) struct ProcessorTables {
     pub(crate) rows: Rows,
+    pub(crate) queue: Queue,
+    /// By aggregate, number and part.
+    pub(crate) drops: Vec<ItemName>,
+    pub(crate) keep: bool,
+    /// By aggregate, number and part.
+    pub(crate) marks: Vec<ItemName>,
     pub(crate) table: Table,
 }
 
 impl Model for ProcessorTables {
+    ghost use Rattle.std.specs.Prelude.{◌-◌, vec_len, vec_capacity};
     ghost use Rattle.std.specs.Coded.{codes};
     ghost use Rattle.ax_tokens.specs.TokenCode.{coded_token};
     ghost use Rattle.ax_world.specs.WorldTables.{ProcessorTablesView};
@@ -27,94 +33,71 @@ impl Model for ProcessorTables {
 
     ghost coded = { Prim.hlevel (codes, coded_token) };
 
-    ghost view = { λ x. record { place = record { processor_state = record { rows = x.rows }; table = x.table.entries }; room = x.table.room } };
+    ghost view = { λ x. record {
+      place = record {
+        whole = x.queue.whole;
+        processor_state = record { rows = x.rows; queue = x.queue.sequences; drops = x.drops.items; keep = x.keep; marks = x.marks.items };
+        table = x.table.entries;
+      };
+      room = record { rows = x.table.room; marks = vec_capacity x.marks - vec_len x.marks };
+    } };
 }
 
 impl ProcessorTables {
-    fn set_rows(&mut self, rows: Rows)
-        ensures place { self.new.place ≡ with_state (record self.old.place.processor_state { rows = rows }) self.old.place }
+    pub(crate) fn set_rows(&mut self, rows: Rows)
+        ensures place { self.new.place ≡ rows_set rows self.old.place }
         ensures room { self.new.room ≡ self.old.room }
     {
         self.rows = rows;
     }
 
     /// Puts a row in the place of the aggregate's, or at the end. It takes no memory.
-    fn put_row(&mut self, aggregate: Name, value: Positioned)
+    pub(crate) fn put_row(&mut self, aggregate: Name, value: Positioned)
         requires place { HasPlaceFor aggregate self.old.place }
-        requires room { 0 < self.old.room }
-        ensures place { self.new.place ≡ record self.old.place { table = put_entry aggregate value self.old.place.table } }
-        ensures room { self.old.room ≤ self.new.room + 1 }
+        requires room { 0 < self.old.room.rows }
+        ensures place { self.new.place ≡ row_put aggregate value self.old.place }
+        ensures rows { self.old.room.rows ≤ self.new.room.rows + 1 }
+        ensures marks { self.new.room.marks ≡ self.old.room.marks }
     {
         let _ = self.table.put(aggregate, value);
     }
 
-    /// Makes room for as many new rows. The rows stay.
-    fn reserve(&mut self, count: usize) -> Result<(), NoMemory>
-        ensures place { self.new.place ≡ self.old.place }
-        ensures room { OnOk result (count ≤ self.new.room) }
-        ensures more { self.old.room ≤ self.new.room }
+    pub(crate) fn set_policy(&mut self, keep: bool)
+        ensures place { self.new.place ≡ policy_set keep self.old.place }
+        ensures room { self.new.room ≡ self.old.room }
     {
-        self.table.reserve(count)
+        self.keep = keep;
     }
-}
 
-pub(crate) fn set_rows(processor_tables: &mut Vec<ProcessorTables>, processor: u32, rows: Rows)
-    requires { processor < length processor_tables.old.items }
-    ensures processor_tables { map (λ x. x.place) processor_tables.new.items ≡ rows_set processor rows (map (λ x. x.place) processor_tables.old.items) }
-    ensures rooms { map (λ x. x.room) processor_tables.new.items ≡ map (λ x. x.room) processor_tables.old.items }
-{
-    let place = &mut processor_tables[processor as usize];
-    place.set_rows(rows);
-}
-
-pub(crate) fn put_row(
-    processor_tables: &mut Vec<ProcessorTables>,
-    processor: u32,
-    aggregate: Name,
-    value: Positioned,
-)
-    requires declared { processor < length processor_tables.old.items }
-    requires place { HasPlaceFor aggregate (processor_tables_in (map (λ x. x.place) processor_tables.old.items) processor) }
-    requires room { 0 < room_in (map (λ x. x.room) processor_tables.old.items) processor }
-    ensures processor_tables { map (λ x. x.place) processor_tables.new.items ≡ row_put processor aggregate value (map (λ x. x.place) processor_tables.old.items) }
-    ensures rooms { (q : ℕ) → room_in (map (λ x. x.room) processor_tables.old.items) q ≤ room_in (map (λ x. x.room) processor_tables.new.items) q + one (processor == q) }
-{
-    let place = &mut processor_tables[processor as usize];
-    place.put_row(aggregate, value);
-}
-
-/// How many of the edits put a row of a processor.
-fn rows_put(edits: &[Edit], processor: u32) -> usize
-    ensures { result ≡ count (puts_row processor) edits.now }
-{
-    let mut rows = 0;
-    for edit in edits {
-        if let Edit::PutRow {
-            processor: place,
-            ..
-        } = edit
-        {
-            if *place == processor {
-                rows += 1;
-            }
-        }
+    /// Marks an item. It takes no memory.
+    pub(crate) fn put_mark(&mut self, item: ItemName)
+        requires order { HasMarksInOrder self.old.place }
+        requires room { 0 < self.old.room.marks }
+        ensures place { self.new.place ≡ mark_put item self.old.place }
+        ensures rows { self.new.room.rows ≡ self.old.room.rows }
+        ensures marks { self.old.room.marks ≤ self.new.room.marks + 1 }
+    {
+        put_mark(&mut self.marks, item);
     }
-    rows
-}
 
-/// Makes room in each table for the rows that the edits put. The rows stay, also where memory is wanting.
-pub(crate) fn reserve_rows(
-    processor_tables: &mut Vec<ProcessorTables>,
-    edits: &[Edit],
-) -> Result<(), NoMemory>
-    requires { length processor_tables.old.items < 2 ^ 32 }
-    ensures processor_tables { map (λ x. x.place) processor_tables.new.items ≡ map (λ x. x.place) processor_tables.old.items }
-    ensures rooms { OnOk result ((q : ℕ) → q < length processor_tables.new.items → count (puts_row q) edits.now ≤ room_in (map (λ x. x.room) processor_tables.new.items) q) }
-{
-    for processor in 0..processor_tables.len() {
-        let count = rows_put(edits, processor as u32);
-        let place = &mut processor_tables[processor];
-        place.reserve(count)?;
+    /// Removes the mark of an item. It takes no memory.
+    pub(crate) fn remove_mark(&mut self, item: &ItemName)
+        requires { HasMarksInOrder self.old.place }
+        ensures place { self.new.place ≡ mark_removed item.now self.old.place }
+        ensures rows { self.new.room.rows ≡ self.old.room.rows }
+        ensures marks { self.old.room.marks ≤ self.new.room.marks }
+    {
+        remove_mark(&mut self.marks, item);
     }
-    Ok(())
+
+    /// Makes room for as many new rows and marks. What is kept stays, also where memory is wanting.
+    pub(crate) fn reserve(&mut self, rows: usize, marks: usize) -> Result<(), NoMemory>
+        ensures place { self.new.place ≡ self.old.place }
+        ensures rows { OnOk result (rows ≤ self.new.room.rows) }
+        ensures marks { OnOk result (marks ≤ self.new.room.marks) }
+    {
+        self.table.reserve(rows)?;
+        self.marks.reserve(marks)?;
+        Ok(())
+    }
 }

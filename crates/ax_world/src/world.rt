@@ -1,7 +1,7 @@
 ghost use Rattle.std.specs.Prelude.{◌≡◌, ◌+◌, ◌^◌, ◌<◌, ◌≤◌, ◌*◌, [], length, map, slice_get, IsTrue, IfOk, OnOk};
 ghost use Rattle.std.specs.Option.{option_copied};
 ghost use Rattle.ax_state.specs.Every.{count};
-ghost use Rattle.ax_state.specs.Setting.{IsSetting, is_projection, processor_number, projection_at};
+ghost use Rattle.ax_state.specs.Setting.{IsSetting, is_projection, processor_number, projection_at, whole_at};
 ghost use Rattle.ax_state.specs.State.{actor_name};
 ghost use Rattle.ax_world.specs.WorldTables.{starting, state_of, processor_tables_at, desk_of};
 ghost use Rattle.ax_world.specs.EditsApplied.{edits_applied};
@@ -9,14 +9,16 @@ ghost use Rattle.ax_world.specs.Fits.{IsWorld, Fits, HasRoom};
 
 use crate::named::number_of;
 use crate::parts::Parts;
+use crate::place::ProcessorTables;
 use crate::start::{empty_desks, first_places, row_count};
-use crate::{Desk, Edits};
+use crate::{Desk, Edits, Notice};
 use ax_claims::Rows;
+use ax_letters::Queue;
 use ax_log::Log;
 use ax_projections::Table;
 use ax_rules::Rules;
 use ax_sheet::{Processors, Sheet};
-use ax_values::{Name, Names, NoMemory};
+use ax_values::{ItemName, Name, Names, NoMemory};
 use std::alloc::Global;
 use std::marker::Model;
 
@@ -45,7 +47,8 @@ impl Model for World {
 
 impl World {
     /// The starting world: no time has passed, no cell is there, each processor has its first segments with token 0, no
-    /// owner and the fences from 1 on, and each desk is empty.
+    /// owner and the fences from 1 on, has no letter, no dropped item and no mark, and keeps failed items as letters; there
+    /// is no notice, and each desk is empty.
     pub fn start(
         alloc: Global,
         sheet: Sheet,
@@ -68,6 +71,7 @@ impl World {
                 fence,
                 log: Log::new(alloc),
                 processor_tables,
+                notices: Vec::new(alloc),
                 desks,
             },
         })
@@ -166,6 +170,51 @@ impl World {
         &self.parts.processor_tables[processor as usize].table
     }
 
+    /// The letters of a processor, by sequence: the failed items of each, which wait until they are handled again (Axon's
+    /// reference guide: the sequenced dead-letter queue).
+    #[tactic(auto, using(crate::proofs::Wholes::whole_in))]
+    pub fn queue(&self, processor: u32) -> &Queue
+        requires { processor < length self.now.tables.processor_tables }
+        ensures sequences { result.now.sequences ≡ (processor_tables_at self.now.tables processor).processor_state.queue }
+        ensures whole { result.now.whole ≡ whole_at self.now.tables.setting processor }
+    {
+        self.facts();
+        &self.tables_at(processor).queue
+    }
+
+    /// The items that a processor dropped for good, by aggregate, number and part. Its rows are folded without them (Axon's
+    /// reference guide: items that are not enqueued, and letters that are evicted).
+    pub fn drops(&self, processor: u32) -> &[ItemName]
+        requires { processor < length self.now.tables.processor_tables }
+        ensures { result.now ≡ (processor_tables_at self.now.tables processor).processor_state.drops }
+    {
+        &self.parts.processor_tables[processor as usize].drops
+    }
+
+    /// The policy of a processor: true where it keeps a failed item as a letter, false where it drops it (Axon's reference
+    /// guide: the enqueue policy).
+    pub fn policy(&self, processor: u32) -> bool
+        requires { processor < length self.now.tables.processor_tables }
+        ensures { result ≡ (processor_tables_at self.now.tables processor).processor_state.keep }
+    {
+        self.parts.processor_tables[processor as usize].keep
+    }
+
+    /// The items that are marked to fail in a processor, by aggregate, number and part.
+    pub fn marks(&self, processor: u32) -> &[ItemName]
+        requires { processor < length self.now.tables.processor_tables }
+        ensures { result.now ≡ (processor_tables_at self.now.tables processor).processor_state.marks }
+    {
+        &self.parts.processor_tables[processor as usize].marks
+    }
+
+    /// The notices of projections: each says that an item was applied whose rule announces. None is there twice.
+    pub fn notices(&self) -> &[Notice]
+        ensures { result.now ≡ self.now.tables.notices }
+    {
+        &self.parts.notices
+    }
+
     /// What an actor holds.
     #[tactic(auto, using(crate::proofs::OneProcessorChanges::got_map))]
     pub fn desk(&self, actor: u32) -> &Desk
@@ -192,5 +241,13 @@ impl World {
         ensures { self.new.tables ≡ edits_applied edits self.old.tables }
     {
         self.parts.make_all(edits);
+    }
+
+    #[tactic(auto, using(crate::proofs::OneProcessorChanges::got_map))]
+    fn tables_at(&self, processor: u32) -> &ProcessorTables
+        requires { processor < length self.now.tables.processor_tables }
+        ensures { slice_get self.now.tables.processor_tables processor ≡ Some result.now.place }
+    {
+        &self.parts.processor_tables[processor as usize]
     }
 }

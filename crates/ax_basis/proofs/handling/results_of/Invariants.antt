@@ -6,6 +6,6 @@ use Rattle.ax_basis.proofs.handling.results_of.Given as goal
 
 abbrev pub invariant-loop-share : goal.invariant-loop-share
 invariant-loop-share l = record {
-  made : l.results.items ≡ map (share_result l.rules l.fn.basis.keep) (take l.share-index l.share-items);
-  fit : IsTrue (shares_fit l.rules (drop l.share-index l.share-items));
+  made : l.results.items ≡ map (share_result l.rules l.fn.basis.keep) (take l.share-index l.shares);
+  fit : IsTrue (shares_fit l.rules (drop l.share-index l.shares));
 }

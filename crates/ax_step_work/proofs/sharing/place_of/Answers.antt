@@ -1,10 +1,15 @@
-use Rattle.std.proofs.Common.{rules, of_calls}
-use Rattle.std.proofs.lemmas.Fn.{always_returns_same}
+use Rattle.std.proofs.Common.{sym, ap, ◌∙◌}
 use Rattle.ax_values.specs.Words.{name_cmp}
-use Rattle.ax_step_work.proofs.SharePlaces.{place-made}
+use Rattle.ax_basis.specs.Basis.{Share}
+use Rattle.ax_step_work.proofs.SharePlaces.{last-below, last-here}
 use Rattle.ax_step_work.proofs.sharing.place_of.Goals as goal
 
-pub returns : goal.returns
-returns c =
-    place-made c.args.aggregate.now c.args.shares.now c.binary_search_by.result c.requires c.binary_search_by.ensures.bound
-    (c.binary_search_by.ensures.position (λ s. name_cmp s.sequence c.args.aggregate.now) (always_returns_same _ _ _ (λ a r f k. search (rules, of_calls))))
+pub returns-in-Less : goal.returns-in-Less
+returns-in-Less c =
+    last-below c.args.aggregate.now c.args.shares.now c.in-Some.last.now c.requires (sym c.in-Some.ensures.value)
+    (ap (λ (s : Share). name_cmp s.sequence c.args.aggregate.now) (sym c.last-2.view_is) ∙ sym c.cmp.ensures ∙ c.in-Less.is)
+
+pub returns-in-Equal : goal.returns-in-Equal
+returns-in-Equal c =
+    last-here c.args.aggregate.now c.args.shares.now c.in-Some.last.now c.requires (sym c.in-Some.ensures.value)
+    (ap (λ (s : Share). name_cmp s.sequence c.args.aggregate.now) (sym c.last-2.view_is) ∙ sym c.cmp.ensures ∙ c.in-Equal.is)
