@@ -7,12 +7,11 @@ use Rattle.ax_claims.specs.Rows.{TokenRow}
 use Rattle.ax_state.specs.Every.{count, one}
 use Rattle.ax_state.specs.Setting.{whole_at}
 use Rattle.ax_state.specs.State.{State, ProcessorState, processor_state_at, with_fence, with_rows}
-use Rattle.ax_state.specs.Positions.{first_in}
 use Rattle.ax_state.specs.Portions.{portions}
 use Rattle.ax_state.specs.WellFormed.{IsWellFormed, IsProcessorState, IsProcessorBy, IsFencedProcessor, IsTokenOver, IsOwnedRight, IsBatchRow, AreParts, OwnsRow, has_no_gaps, has_no_replay}
 use Rattle.ax_state.proofs.Lists.{All-map, All-get, count-none}
 use Rattle.ax_state.proofs.RowPuts.{All-rows, All-portions, fenced-later}
-use Rattle.ax_state.proofs.Frames.{place-at, batch-owned, kept-rows}
+use Rattle.ax_state.proofs.Frames.{place-at, batch-owned, fenced-at, moments-at, kept-rows}
 use Rattle.ax_state.proofs.Splits.{CoverSame, folded-same}
 use Rattle.ax_state.proofs.Collapsing.{IsTokenOf}
 
@@ -53,16 +52,16 @@ module _ (m : State) (p fence : ℕ) (news later : List TokenRow) (there : slice
     parts = parts;
     tokens = All-portions (λ x. IsTokenOver m.cells x.segment.mask x.token) later
         (each (λ r. IsTokenOver m.cells r.segment.mask r.token) (λ r n. n.token.over) (All-rows (λ x. IsTokenOver m.cells x.segment.mask x.token) rows was.tokens));
-    folded = folded-same (portions rows) (portions later) same (whole_at m.setting p) m.setting p (events m.cells) (first_in (whole_at m.setting p) (processor_state_at m p).queue) (processor_state_at m p).drops was.folded;
+    folded = folded-same (portions rows) (portions later) same (whole_at m.setting p) m.setting p (events m.cells) (processor_state_at m p).queue (processor_state_at m p).drops was.folded;
     gaps = λ e. All-portions (λ x. IsTrue (has_no_gaps x.token)) later (each (λ r. IsTrue (has_no_gaps r.token)) (λ r n. n.token.gaps e) (All-rows (λ x. IsTrue (has_no_gaps x.token)) rows (was.gaps e)));
     replays = λ e. All-portions (λ x. IsTrue (has_no_replay x.token)) later (each (λ r. IsTrue (has_no_replay r.token)) (λ r n. n.token.replays e) (All-rows (λ x. IsTrue (has_no_replay x.token)) rows (was.replays e)));
     owners = each IsOwnedRight (λ r n. n.owner) was.owners;
     parked = record { queue = was.parked.queue; drops = was.parked.drops; marks = was.parked.marks };
-    bare = record { letters = was.bare.letters; drops = was.bare.drops };
+    unparked = λ e. (let k = was.unparked e in record { queue = k.queue; drops = k.drops; marks = k.marks });
   }
 
   fenced : AllByRecursion (λ r. (0 < r.fence) × (r.fence ≤ m.fence)) rows
-  fenced = All-get (IsFencedProcessor m.fence) m.processor_states p (processor_state_at m p) h.fences.within there
+  fenced = (fenced-at m p there h).rows
 
   not-old : (f : ℕ) → f ≤ m.fence → count (λ r. r.fence == f) news ≡ 0
   not-old f le = count-none (λ r. r.fence == f) news
@@ -75,14 +74,14 @@ module _ (m : State) (p fence : ℕ) (news later : List TokenRow) (there : slice
   pub kept-fresh-rows : m.fence ≤ fence → ((f : ℕ) → count (λ r. r.fence == f) news ≤ 1) → AreParts (portions later) → CoverSame (portions rows) (portions later) → IsWellFormed (with_fence fence (with_rows p later m))
   kept-fresh-rows rise apart parts same = kept-rows m p later fence there (record {
     place = place-fresh parts same;
-    since = each (λ r. r.since ≤ m.clock) (λ r n. n.since) (All-get (IsProcessorBy m.clock) m.processor_states p (processor_state_at m p) h.clock.kept there);
+    since = each (λ r. r.since ≤ m.clock) (λ r n. n.since) (moments-at m p there h).rows;
     counter = rise;
-    within = each (λ r. (0 < r.fence) × (r.fence ≤ fence)) (λ r n. ((let above : m.fence < r.fence = n.above in omega arith), n.within)) (fenced-later m.fence fence (processor_state_at m p) rise fenced);
+    within = each (λ r. (0 < r.fence) × (r.fence ≤ fence)) (λ r n. ((let above : m.fence < r.fence = n.above in omega arith), n.within)) (fenced-later m.fence fence (processor_state_at m p) rise (fenced-at m p there h)).rows;
     stood = λ f le. (let no_more : count (λ r. r.fence == f) later ≤ count (λ r. r.fence == f) rows + count (λ r. r.fence == f) news = most (λ r. r.fence == f) in
         let none : count (λ r. r.fence == f) news ≡ 0 = not-old f le in omega arith);
     fresh = λ f lt. (let no_more : count (λ r. r.fence == f) later ≤ count (λ r. r.fence == f) rows + count (λ r. r.fence == f) news = most (λ r. r.fence == f) in
         let none : count (λ r. r.fence == f) rows ≡ 0 = none-above f lt in let once : count (λ r. r.fence == f) news ≤ 1 = apart f in omega arith);
     owners = λ w q t f le own. each (OwnsRow w q t f p) (λ r n is. absurd (let above : m.fence < r.fence = n.above in omega arith)) own;
-    batches = λ k d b at has old. each (IsBatchRow m.setting m.cells b)
+    batches = λ k d b at has old. each (IsBatchRow m.setting m.cells b (processor_state_at m p).queue (processor_state_at m p).drops)
         (λ r n seg is. absurd (let le : b.fence ≤ m.fence = (batch-owned m k d b at has h).0 in let above : m.fence < r.fence = n.above in omega arith)) old;
   }) h

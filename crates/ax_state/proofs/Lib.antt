@@ -10,7 +10,17 @@ pub mod Grow
 pub mod Fill
 pub mod SegmentCounts
 pub mod Starting
+pub mod Found
 pub mod Prefixes
+pub mod DistinctItems
+pub mod SequenceItems
+pub mod SharesAdded
+pub mod QueueChanges
+pub mod NameTests
+pub mod Names
+pub mod OutcomeLaws
+pub mod BatchOutcomes
+pub mod BatchAdded
 pub mod Collapsing
 pub mod Splits
 pub mod FreshRows

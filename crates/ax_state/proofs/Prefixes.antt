@@ -1,12 +1,13 @@
 -- Where the covered events of each aggregate are a prefix of its stream, positions and rows can be read off the covered events alone.
-use Rattle.std.proofs.Common.{◌≡◌, ℕ, Bool, true, false, not, List, [], ◌∷◌, ◌++◌, map, length, filter, flat_map, take, drop, find, Option, Some, None, if◌then◌else◌, refl, sym, ap, ◌∙◌, subst}
+use Rattle.std.proofs.Common.{◌≡◌, ℕ, ◌≤◌, Bool, true, false, not, List, [], ◌∷◌, ◌++◌, map, length, filter, flat_map, take, drop, find, Option, Some, None, if◌then◌else◌, refl, sym, ap, ◌∙◌, arith}
 use Rattle.std.proofs.Math.Seq.{take-length}
 use Rattle.std.proofs.lemmas.Grind.{flat_map-append}
 use Rattle.std.proofs.lemmas.List.{take-append-drop}
 use Rattle.std.proofs.lemmas.List.Elements.{filter-append}
 use Rattle.std.specs.List.{list_all}
 use Rattle.std.proofs.lemmas.Slice.Eq.{bytes_eq-Decides}
-use Rattle.ax_values.specs.Grammar.{Name}
+use Rattle.ax_values.specs.Grammar.{Name, ItemName}
+use Rattle.ax_values.specs.Words.{place_where, sequence_in}
 use Rattle.ax_segments.specs.Segments.{matches}
 use Rattle.ax_segments.specs.Sequences.{hash_in}
 use Rattle.ax_log.specs.Log.{Stored, events, is_of, stream_in}
@@ -15,11 +16,11 @@ use Rattle.ax_upcast.specs.Upcast.{upcast}
 use Rattle.ax_projections.specs.Items.{Placed, placed, placed_items, items_of, plain_items}
 use Rattle.ax_claims.specs.Rows.{TokenRow}
 use Rattle.ax_state.specs.State.{ProcessorState}
-use Rattle.ax_letters.specs.Letters.{Queue}
 use Rattle.ax_state.specs.Setting.{Setting, whole_at}
 use Rattle.ax_state.specs.Positions.{row_covers, covered_in, covered_items_in, first_in, position_in, position_with, row_in, undropped}
 use Rattle.ax_state.specs.Portions.{Portion, portion_of, portions, portion_covers, covered_by, items_in, covered_events, position_by, row_by}
-use Rattle.ax_state.specs.WellFormed.{CoverPrefix, IsProcessorState, IsBare, is_prefix_test}
+use Rattle.ax_state.specs.WellFormed.{CoverPrefix, IsProcessorState, is_prefix_test}
+use Rattle.ax_state.proofs.Found.{is_item, place-front, place-within, take-within, first-covered}
 use Rattle.ax_values.specs.declared.cell.Cell.{Cell}
 use Rattle.ax_values.specs.declared.item.Item.{Item}
 use Rattle.ax_upcast.specs.declared.upcaster.Upcaster.{Upcaster}
@@ -119,18 +120,6 @@ items-prefix whole chain es ps a h =
       ap (flat_map (placed_items chain)) (sym (take-append-drop n s)) ∙ flat_map-append (placed_items chain) (take n s) (drop n s) ∙ ap (λ es. flat_map (placed_items chain) es ++ flat_map (placed_items chain) (drop n s)) (sym front),
     )
 
--- ---- where nothing is parked and nothing dropped
-
-pub bare-first : (s : ProcessorState) → IsBare s → (whole : Option Name) (a : Name) → first_in whole s.queue a ≡ None
-bare-first s b whole a = ap (λ (q : Queue). first_in whole q a) b.letters
-
--- a position is the number of covered items
-pub bare-position : (s : ProcessorState) → IsBare s → (whole : Option Name) (chain : List Upcaster) (cells : List Cell) (a : Name) → position_in whole chain cells s a ≡ length (covered_items_in whole chain cells s.rows a)
-bare-position s b whole chain cells a = ap (λ o. position_with o (items_of chain a cells) (length (covered_items_in whole chain cells s.rows a))) (bare-first s b whole a)
-
-pub bare-row : (s : ProcessorState) → IsBare s → (whole : Option Name) (rules : Rules) (chain : List Upcaster) (cs : List Stored) (a : Name) → row_by rules chain cs (first_in whole s.queue a) s.drops a ≡ row_by rules chain cs None [] a
-bare-row s b whole rules chain cs a = ap (λ o. row_by rules chain cs o s.drops a) (bare-first s b whole a) ∙ ap (λ ds. row_by rules chain cs None ds a) b.drops
-
 -- ---- the law, of a processor whose state is well formed
 
 module _ (setting : Setting) (cells : List Cell) (p : ℕ) (s : ProcessorState) (h : IsProcessorState setting cells p s) where
@@ -140,27 +129,31 @@ module _ (setting : Setting) (cells : List Cell) (p : ℕ) (s : ProcessorState) 
   abbrev chain : List Upcaster
   chain = setting.sheet.chain
 
+  abbrev cs : List Stored
+  cs = covered_events whole (portions s.rows) (events cells)
+
   abbrev covered : Name → List Placed
-  covered a = items_in chain (covered_events whole (portions s.rows) (events cells)) a
+  covered a = items_in chain cs a
+
+  split : (a : Name) → (rest : List Placed) × (items_of chain a cells ≡ covered a ++ rest)
+  split a = items-prefix whole chain (events cells) (portions s.rows) a h.folded.prefixes
 
   -- the position that is counted in all items is that by the covered events
-  pub same-position : (a : Name) → position_in whole chain cells s a ≡ position_by chain (covered_events whole (portions s.rows) (events cells)) (first_in whole s.queue a) a
-  same-position a =
-      subst (λ (q : Queue). position_with (first_in whole q a) (items_of chain a cells) (length (covered_items_in whole chain cells s.rows a)) ≡ position_with (first_in whole q a) (covered a) (length (covered a)))
-      (sym h.bare.letters) (ap length (covered-items whole chain cells s.rows a))
+  pub same-position : (a : Name) → position_in whole chain cells s a ≡ position_by chain cs (first_in whole s.queue a) a
+  same-position a = by (first_in whole s.queue a) refl
+    where
+      by : (o : Option ItemName) → first_in whole s.queue a ≡ o → position_with o (items_of chain a cells) (length (covered_items_in whole chain cells s.rows a)) ≡ position_with o (covered a) (length (covered a))
+      by None e = ap length (covered-items whole chain cells s.rows a)
+      by (Some x) e = ap (place_where (is_item x)) (split a).1 ∙ place-front (is_item x) (covered a) (split a).0 (first-covered whole chain cs s.queue s.drops a x (h.folded.covered.letters (sequence_in whole a)) e)
 
-  at-count : (a : Name) → position_in whole chain cells s a ≡ length (covered a)
-  at-count a = same-position a ∙ ap (λ (q : Queue). position_with (first_in whole q a) (covered a) (length (covered a))) h.bare.letters
-
-  by-count : (a : Name) → position_by chain (covered_events whole (portions s.rows) (events cells)) (first_in whole s.queue a) a ≡ length (covered a)
-  by-count a = ap (λ (q : Queue). position_with (first_in whole q a) (covered a) (length (covered a))) h.bare.letters
+  -- it is at most the number of covered items
+  pub by-within : (o : Option ItemName) (a : Name) → position_by chain cs o a ≤ length (covered a)
+  by-within None a = omega arith
+  by-within (Some x) a = place-within (is_item x) (covered a)
 
   -- the row that is folded from a prefix of all items is that by the covered events
-  pub same-row : (rules : Rules) (a : Name) → row_in whole rules chain cells s a ≡ row_by rules chain (covered_events whole (portions s.rows) (events cells)) (first_in whole s.queue a) s.drops a
+  pub same-row : (rules : Rules) (a : Name) → row_in whole rules chain cells s a ≡ row_by rules chain cs (first_in whole s.queue a) s.drops a
   same-row rules a =
-      ap (λ n. fold_items rules (plain_items (undropped s.drops (take n (items_of chain a cells))))) (at-count a)
-      ∙ ap (λ xs. fold_items rules (plain_items (undropped s.drops xs))) (ap (take (length (covered a))) split.1 ∙ take-front (covered a) split.0 ∙ sym (take-length (covered a)))
-      ∙ ap (λ n. fold_items rules (plain_items (undropped s.drops (take n (covered a))))) (sym (by-count a))
-    where
-      split : (rest : List Placed) × (items_in chain (events cells) a ≡ covered a ++ rest)
-      split = items-prefix whole chain (events cells) (portions s.rows) a h.folded.prefixes
+      ap (λ n. fold_items rules (plain_items (undropped s.drops (take n (items_of chain a cells))))) (same-position a)
+      ∙ ap (λ xs. fold_items rules (plain_items (undropped s.drops (take (position_by chain cs (first_in whole s.queue a) a) xs)))) (split a).1
+      ∙ ap (λ xs. fold_items rules (plain_items (undropped s.drops xs))) (take-within (position_by chain cs (first_in whole s.queue a) a) (covered a) (split a).0 (by-within (first_in whole s.queue a) a))

@@ -1,5 +1,5 @@
 -- A row put in the place of that of its segment: what is read off segments and tokens, and how often a fence stands.
-use Rattle.std.specs.Prelude.{◌≡◌, ℕ, zero, suc, ◌+◌, ◌<◌, ◌≤◌, ◌==◌, ◌&&◌, Bool, true, false, List, [], ◌∷◌, length, filter, Some, slice_get, slice_set, nat_lt, if◌then◌else◌}
+use Rattle.std.specs.Prelude.{◌≡◌, ℕ, zero, suc, ◌+◌, ◌<◌, ◌≤◌, ◌==◌, ◌&&◌, Bool, true, false, List, [], ◌∷◌, length, filter, Option, Some, None, IfSome, slice_get, slice_set, nat_lt, if◌then◌else◌}
 use Rattle.std.specs.List.{AllByRecursion}
 use Rattle.std.proofs.Common.{refl, ap, sym, ◌∙◌, subst, arith}
 use Rattle.std.proofs.lemmas.Bool.Decides.{nat_tests}
@@ -12,8 +12,9 @@ use Rattle.ax_claims.proofs.RowPlaces.{put-here, rows-kept, rises-above, same-se
 use Rattle.ax_state.specs.Every.{count}
 use Rattle.ax_state.specs.State.{ProcessorState}
 use Rattle.ax_state.specs.Portions.{Portion, portion_of, portions}
-use Rattle.ax_state.specs.WellFormed.{AreParts, IsFencedProcessor, fence_count}
-use Rattle.ax_state.proofs.Lists.{All-map, All-set, count-none}
+use Rattle.ax_letters.specs.declared.letter.Taken.{Taken}
+use Rattle.ax_state.specs.WellFormed.{AreParts, IsFencedProcessor, fence_count, state_count, is_taken_as}
+use Rattle.ax_state.proofs.Lists.{All-map, All-set, count-none, IfSome-map}
 
 -- ---- rows and their portions
 
@@ -127,8 +128,8 @@ portions-put s rows r n h e same token = let f = found-row s rows r e in put-sam
 
 -- ---- fences
 
--- a processor's rows that add d of a fence add so many to all
-pub fence_count-set : (f : ℕ) (ss : List ProcessorState) (p : ℕ) (s n : ProcessorState) (d : ℕ) → slice_get ss p ≡ Some s → count (λ r. r.fence == f) n.rows ≤ count (λ r. r.fence == f) s.rows + d
+-- a processor that adds d of a fence adds so many to all
+pub fence_count-set : (f : ℕ) (ss : List ProcessorState) (p : ℕ) (s n : ProcessorState) (d : ℕ) → slice_get ss p ≡ Some s → state_count f n ≤ state_count f s + d
     → fence_count f (slice_set ss p n) ≤ fence_count f ss + d
 fence_count-set f [] p s n d e h = absurd (cc)
 fence_count-set f (x ∷ xs) zero s n d e h = let is : x ≡ s = cc in rw is (omega arith)
@@ -137,12 +138,27 @@ fence_count-set f (x ∷ xs) (suc p) s n d e h = let ih : fence_count f (slice_s
 not-above : (fence f g : ℕ) → fence < f → g ≤ fence → (g == f) ≡ false
 not-above fence f g lt le = grind (arith, nat_tests)
 
--- no row has a fence above the counter
+not-taken : (fence f : ℕ) (o : Option Taken) → fence < f → IfSome o (λ t. t.number ≤ fence) → is_taken_as f o ≡ false
+not-taken fence f None lt k = refl
+not-taken fence f (Some t) lt k = not-above fence f t.number lt k
+
+-- no row and no take of a processor has a number above the counter
+pub rows-above : (fence f : ℕ) (s : ProcessorState) → fence < f → IsFencedProcessor fence s → count (λ r. r.fence == f) s.rows ≡ 0
+rows-above fence f s lt h = count-none (λ r. r.fence == f) s.rows (All-map (λ r. (0 < r.fence) × (r.fence ≤ fence)) (λ r. (r.fence == f) ≡ false) (λ r k. not-above fence f r.fence lt k.1) s.rows h.rows)
+
+pub takes-above : (fence f : ℕ) (s : ProcessorState) → fence < f → IsFencedProcessor fence s → count (λ q. is_taken_as f q.taken) s.queue ≡ 0
+takes-above fence f s lt h = count-none (λ q. is_taken_as f q.taken) s.queue (All-map (λ q. IfSome q.taken (λ t. t.number ≤ fence)) (λ q. is_taken_as f q.taken ≡ false) (λ q k. not-taken fence f q.taken lt k) s.queue h.takes)
+
+-- so none of all does
 pub fence_count-above : (fence f : ℕ) (ss : List ProcessorState) → fence < f → AllByRecursion (IsFencedProcessor fence) ss → fence_count f ss ≡ 0
 fence_count-above fence f [] lt h = refl
 fence_count-above fence f (s ∷ ss) lt h =
-    let rows : count (λ r. r.fence == f) s.rows ≡ 0 = count-none (λ r. r.fence == f) s.rows (All-map (λ r. (0 < r.fence) × (r.fence ≤ fence)) (λ r. (r.fence == f) ≡ false) (λ r k. not-above fence f r.fence lt k.1) s.rows h.0) in
+    let rows : count (λ r. r.fence == f) s.rows ≡ 0 = rows-above fence f s lt h.0 in
+    let takes : count (λ q. is_taken_as f q.taken) s.queue ≡ 0 = takes-above fence f s lt h.0 in
     let rest : fence_count f ss ≡ 0 = fence_count-above fence f ss lt h.1 in omega arith
 
 pub fenced-later : (fence later : ℕ) (s : ProcessorState) → fence ≤ later → IsFencedProcessor fence s → IsFencedProcessor later s
-fenced-later fence later s le h = All-map (λ r. (0 < r.fence) × (r.fence ≤ fence)) (λ r. (0 < r.fence) × (r.fence ≤ later)) (λ r k. (k.0, (let most : r.fence ≤ fence = k.1 in omega arith))) s.rows h
+fenced-later fence later s le h = record {
+  rows = All-map (λ r. (0 < r.fence) × (r.fence ≤ fence)) (λ r. (0 < r.fence) × (r.fence ≤ later)) (λ r k. (k.0, (let most : r.fence ≤ fence = k.1 in omega arith))) s.rows h.rows;
+  takes = All-map (λ q. IfSome q.taken (λ t. t.number ≤ fence)) (λ q. IfSome q.taken (λ t. t.number ≤ later)) (λ q k. IfSome-map (λ t. t.number ≤ fence) (λ t. t.number ≤ later) (λ t most. omega arith) q.taken k) s.queue h.takes;
+}

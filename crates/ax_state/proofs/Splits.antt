@@ -21,7 +21,8 @@ use Rattle.ax_claims.proofs.RowPlaces.{same-segment}
 use Rattle.ax_claims.proofs.Halving.{are-split, split-put, split-is, are-merged, merged-is, removed-both, place-order}
 use Rattle.ax_state.specs.Setting.{Setting}
 use Rattle.ax_state.specs.Portions.{Portion, portion_of, portions, portion_covers, covered_by, covered_events}
-use Rattle.ax_state.specs.WellFormed.{AreParts, HasRows, IsFolded}
+use Rattle.ax_letters.specs.Letters.{Queue}
+use Rattle.ax_state.specs.WellFormed.{AreParts, IsFoldedBy, IsFolded}
 use Rattle.ax_state.proofs.Lists.{All-get}
 use Rattle.ax_state.proofs.RowPuts.{All-rows, parts-of, rows-of}
 use Rattle.ax_state.proofs.Coverage.{covered-here, prefix-same}
@@ -42,15 +43,15 @@ module _ (ps qs : List Portion) (same : CoverSame ps qs) (whole : Option Name) w
       (λ e. same (hash_in whole e.record_of.aggregate) e.index (hash_in-small whole e.record_of.aggregate))
 
   -- all that is read off events and portions stays
-  pub folded-same : (setting : Setting) (p : ℕ) (es : List Stored) (first : Name → Option ItemName) (drops : List ItemName) → IsFolded setting whole p es ps first drops → IsFolded setting whole p es qs first drops
-  folded-same setting p es first drops f = record {
+  pub folded-same : (setting : Setting) (p : ℕ) (es : List Stored) (queue : Queue) (drops : List ItemName) → IsFolded setting whole p es ps queue drops → IsFolded setting whole p es qs queue drops
+  folded-same setting p es queue drops f = record {
     prefixes = λ a. prefix-same (λ i. covered_by qs (hash_in whole a) i) (λ i. covered_by ps (hash_in whole a) i) es a (λ i. same (hash_in whole a) i (hash_in-small whole a)) (f.prefixes a);
-    rows = subst (λ cs. HasRows setting p cs first drops) (sym (events-same es)) f.rows;
+    covered = subst (λ cs. IsFoldedBy setting whole p cs queue drops) (sym (events-same es)) f.covered;
   }
 
 -- ---- rows among rows
 
-nat-equal : (m n : ℕ) → nat_cmp m n ≡ Equal → m ≡ n
+pub nat-equal : (m n : ℕ) → nat_cmp m n ≡ Equal → m ≡ n
 nat-equal m n h = at (nat_lt m n) (m == n) refl h
   where
     at : (b c : Bool) → (m == n) ≡ c → cond b Less (cond c Equal Greater) ≡ Equal → m ≡ n
@@ -58,7 +59,7 @@ nat-equal m n h = at (nat_lt m n) (m == n) refl h
     at false true q h = eqb-true m n q
     at false false q h = absurd (cc)
 
-then-equal : (o p : Ordering) → ordering_then o p ≡ Equal → (o ≡ Equal) × (p ≡ Equal)
+pub then-equal : (o p : Ordering) → ordering_then o p ≡ Equal → (o ≡ Equal) × (p ≡ Equal)
 then-equal Less p h = absurd (cc)
 then-equal Equal p h = (refl, h)
 then-equal Greater p h = absurd (cc)

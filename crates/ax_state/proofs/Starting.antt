@@ -13,7 +13,7 @@ use Rattle.ax_claims.proofs.Starts.{are-starting, some-segments}
 use Rattle.ax_state.specs.Every.{AllFrom, count, one}
 use Rattle.ax_state.specs.Setting.{Setting, IsSetting, name_at}
 use Rattle.ax_state.specs.State.{Desk, empty_desk, fresh_processor, first_processors, row_count, start}
-use Rattle.ax_state.specs.WellFormed.{IsWellFormed, AreCommands, IsPlainOver, IsTokenOver, IsProcessorState, IsProcessorBy, IsFencedProcessor, IsDeskOf, IsBatchIn, HoldsCells, IsOwnedRight, holds_cell, fence_count, has_no_gaps, has_no_replay}
+use Rattle.ax_state.specs.WellFormed.{IsWellFormed, AreCommands, IsPlainOver, IsTokenOver, IsProcessorState, IsProcessorBy, IsFencedProcessor, IsDeskOf, IsGripOf, IsBatchIn, HoldsCells, IsOwnedRight, holds_cell, fence_count, has_no_gaps, has_no_replay}
 use Rattle.ax_state.proofs.Lists.{All-map}
 use Rattle.ax_state.proofs.RowPuts.{All-portions, parts-of}
 use Rattle.ax_state.proofs.SegmentCounts.{power_of_count, few_of_count}
@@ -63,12 +63,12 @@ place-first setting p n fence h =
     record {
       parts = parts-of (starting n fence) (are-starting n fence (some-segments n (power_of_count n h)) (power_of_count n h) (let few : n ≤ 16 = few_of_count n h in omega arith));
       tokens = All-portions (λ x. IsTokenOver [] x.segment.mask x.token) (starting n fence) (All-map (IsFirst (n - 1) fence (fence + n)) (λ r. IsTokenOver [] r.segment.mask r.token) (λ r f. f.token) (starting n fence) rows);
-      folded = record { prefixes = λ a. refl; rows = λ e a. refl };
+      folded = record { prefixes = λ a. refl; covered = record { rows = λ e a. refl; letters = λ s. refl; dropped = tt } };
       gaps = λ e. All-portions (λ x. IsTrue (has_no_gaps x.token)) (starting n fence) (All-map (IsFirst (n - 1) fence (fence + n)) (λ r. IsTrue (has_no_gaps r.token)) (λ r f. f.gaps) (starting n fence) rows);
       replays = λ e. All-portions (λ x. IsTrue (has_no_replay x.token)) (starting n fence) (All-map (IsFirst (n - 1) fence (fence + n)) (λ r. IsTrue (has_no_replay r.token)) (λ r f. f.replays) (starting n fence) rows);
       owners = All-map (IsFirst (n - 1) fence (fence + n)) IsOwnedRight (λ r f. f.owner) (starting n fence) rows;
       parked = record { queue = record { rising = refl; few = omega arith; filled = refl }; drops = refl; marks = refl };
-      bare = record { letters = refl; drops = refl };
+      unparked = λ e. record { queue = refl; drops = refl; marks = refl };
     }
 
 -- ---- the processor_states
@@ -86,14 +86,17 @@ processor_states-by : (qs : List Processor) (fence : ℕ) → Counted qs → All
 processor_states-by [] fence h = tt
 processor_states-by (q ∷ qs) fence h =
     let k = both (is_segment_count q.segments) (list_all (λ q. is_segment_count q.segments) qs) h in
-    (All-map (IsFirst (q.segments - 1) fence (fence + q.segments)) (λ r. r.since ≤ 0) (λ r f. f.since) (starting q.segments fence) (rows-first q.segments fence (fence + q.segments) k.0 (omega arith)), processor_states-by qs (fence + q.segments) k.1)
+    (record { rows = All-map (IsFirst (q.segments - 1) fence (fence + q.segments)) (λ r. r.since ≤ 0) (λ r f. f.since) (starting q.segments fence) (rows-first q.segments fence (fence + q.segments) k.0 (omega arith)); queue = tt }, processor_states-by qs (fence + q.segments) k.1)
 
 processor_states-fenced : (qs : List Processor) (fence most : ℕ) → Counted qs → 0 < fence → fence + row_count qs ≤ suc most → AllByRecursion (IsFencedProcessor most) (first_processors qs fence)
 processor_states-fenced [] fence most h pos le = tt
 processor_states-fenced (q ∷ qs) fence most h pos le =
     let k = both (is_segment_count q.segments) (list_all (λ q. is_segment_count q.segments) qs) h in
     let some : 0 < q.segments = some-segments q.segments (power_of_count q.segments k.0) in (
-      All-map (IsFirst (q.segments - 1) fence (fence + q.segments)) (λ r. (0 < r.fence) × (r.fence ≤ most)) (λ r f. (let a : fence ≤ r.fence = f.least in omega arith, let b : r.fence < fence + q.segments = f.most in omega arith)) (starting q.segments fence) (rows-first q.segments fence (fence + q.segments) k.0 (omega arith)),
+      record {
+        rows = All-map (IsFirst (q.segments - 1) fence (fence + q.segments)) (λ r. (0 < r.fence) × (r.fence ≤ most)) (λ r f. (let a : fence ≤ r.fence = f.least in omega arith, let b : r.fence < fence + q.segments = f.most in omega arith)) (starting q.segments fence) (rows-first q.segments fence (fence + q.segments) k.0 (omega arith));
+        takes = tt;
+      },
       processor_states-fenced qs (fence + q.segments) most k.1 (omega arith) (omega arith),
     )
 
@@ -138,7 +141,7 @@ processor_states-once f (q ∷ qs) fence =
     rest : ℕ
     rest = fence_count f (first_processors qs (fence + q.segments))
 
-    at : (c : Bool) → nat_lt f (fence + q.segments) ≡ c → Once f fence (fence + q.segments) here → Once f (fence + q.segments) (fence + q.segments + row_count qs) rest → Once f fence (fence + (q.segments + row_count qs)) (here + rest)
+    at : (c : Bool) → nat_lt f (fence + q.segments) ≡ c → Once f fence (fence + q.segments) here → Once f (fence + q.segments) (fence + q.segments + row_count qs) rest → Once f fence (fence + (q.segments + row_count qs)) (here + 0 + rest)
     at true e a b =
         let lt : f < fence + q.segments = grind (arith, nat_tests, e) in
         let z : rest ≡ 0 = b.before lt in let m : here ≤ 1 = a.most in
@@ -182,5 +185,6 @@ starts s commands h = record {
   notices = record { distinct = refl; declared = tt };
   fences = record { distinct = λ f pos. (processor_states-once f s.processors 1).most; within = processor_states-fenced s.processors 1 (row_count s.processors) h.processors.counts (omega arith) (omega arith) };
   desks = desks-empty (λ k d. IsDeskOf (row_count s.processors) (first_processors s.processors 1) (name_at s.actors k) d) (λ k. record { held = tt; batch = tt }) 0 s.actors;
+  grips = each-empty (λ d. IfSome d.taken (IsGripOf s (row_count s.processors) (first_processors s.processors 1))) tt s.actors;
   batches = each-empty (λ d. IfSome d.batch (IsBatchIn s [] (first_processors s.processors 1))) tt s.actors;
 }

@@ -3,6 +3,8 @@ pub mod Setting
 pub mod State
 pub mod Positions
 pub mod Portions
-pub mod WellFormed
 pub mod Batches
+pub mod WellFormed
+pub mod Bases
+pub mod Parking
 pub mod Answer

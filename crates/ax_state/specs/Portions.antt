@@ -1,6 +1,7 @@
 -- What is covered, read off portions (a segment with its token) and events, and no cell, owner or fence.
 use Rattle.std.specs.Prelude.{ℕ, Bool, false, List, map, length, filter, flat_map, take, find, Option, Some, None, Result}
 use Rattle.ax_values.specs.Grammar.{Name, ItemName}
+use Rattle.ax_values.specs.Words.{same_name, sequence_in}
 use Rattle.ax_log.specs.Log.{Stored, stream_in}
 use Rattle.ax_rules.specs.Expr.{Row}
 use Rattle.ax_rules.specs.Rules.{Rules, fold_items}
@@ -38,6 +39,10 @@ items_in chain es a = flat_map (placed_items chain) (stream_in a es)
 -- the covered ones of the events; where a processor is whole, `whole` is its name
 abbrev pub covered_events : Option Name → List Portion → List Stored → List Stored
 covered_events whole ps es = filter (λ e. covered_by ps (hash_in whole e.record_of.aggregate) e.index) es
+
+-- the items of a sequence among the events
+abbrev pub items_under : Option Name → List Upcaster → List Stored → Name → List Placed
+items_under whole chain es s = flat_map (placed_items chain) (filter (λ e. same_name (sequence_in whole e.record_of.aggregate) s) es)
 
 -- of the covered events cs: the position of an aggregate and its row
 abbrev pub position_by : List Upcaster → List Stored → Option ItemName → Name → ℕ

@@ -5,6 +5,7 @@ use Rattle.ax_segments.specs.Segments.{Segment}
 use Rattle.ax_tokens.specs.Tokens.{Token}
 use Rattle.ax_claims.specs.Rows.{TokenRow, starting}
 use Rattle.ax_letters.specs.Letters.{Queue}
+use Rattle.ax_basis.specs.declared.item.Member.{Member}
 use Rattle.ax_state.specs.Every.{option_or}
 use Rattle.ax_state.specs.Setting.{Setting, name_at}
 use Rattle.ax_values.specs.declared.cell.Cell.{Cell}
@@ -25,13 +26,15 @@ pub record Reservation : Type 0 where
   pub first_seq : ℕ
   pub records : List Record
 
--- what a fetch advances from and to, of the segment of a processor, under the fence of its row
+-- What a fetch advances from and to, of the segment of a processor, under the fence of its row; whether it keeps failed items as letters; and what it read of each aggregate, by identifier. No step reads the rows that it read.
 pub record Batch : Type 0 where
   pub processor : ℕ
   pub segment : Segment
   pub fence : ℕ
   pub old : Token
   pub new : Token
+  pub keep : Bool
+  pub reads : List Member
 
 -- a sequence of letters of a processor, which was taken under a number
 pub record Grip : Type 0 where

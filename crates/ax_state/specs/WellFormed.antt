@@ -1,10 +1,17 @@
 -- What holds of every state that can be reached. Each part takes the values that it reads: events, portions, and not cells and rows.
-use Rattle.std.specs.Prelude.{◌≡◌, ℕ, ◌+◌, ◌^◌, ◌<◌, ◌≤◌, ◌==◌, Bool, true, false, not, ◌&&◌, ◌||◌, List, [], ◌∷◌, map, length, filter, Option, Some, None, IsOk, IsTrue, IfSome, max, nat_lt, nat_le, slice_get}
+use Rattle.std.specs.Prelude.{◌≡◌, ℕ, ◌+◌, ◌^◌, ◌<◌, ◌≤◌, ◌==◌, Bool, true, false, not, ◌&&◌, ◌||◌, List, [], ◌∷◌, map, length, filter, drop, Option, Some, None, Ok, IsOk, IsTrue, IfSome, max, nat_lt, nat_le, slice_get}
 use Rattle.std.specs.List.{AllByRecursion, list_all, list_any}
 use Rattle.ax_values.specs.Grammar.{Name, ItemName}
 use Rattle.std.specs.Ordering.{is_lt}
-use Rattle.ax_values.specs.Words.{rises, same_item, item_cmp}
-use Rattle.ax_letters.specs.Letters.{IsQueue}
+use Rattle.ax_values.specs.Words.{rises, same_item, contains_item, item_cmp, place_where, sequence_in}
+use Rattle.ax_letters.specs.Letters.{Queue, Sequence, IsQueue, letters_of, is_parked}
+use Rattle.ax_letters.specs.declared.letter.Letter.{Letter}
+use Rattle.ax_letters.specs.declared.letter.Taken.{Taken}
+use Rattle.ax_projections.specs.Items.{Placed}
+use Rattle.ax_basis.specs.Basis.{row_fits}
+use Rattle.ax_basis.specs.declared.item.Member.{Member}
+use Rattle.ax_upcast.specs.declared.upcaster.Upcaster.{Upcaster}
+use Rattle.ax_state.specs.Batches.{aggregates_among, batch_items, known_events}
 use Rattle.ax_log.specs.Log.{Stored, events, stream_in, is_settled}
 use Rattle.ax_log.specs.Order.{IsOrdered, has_few_fields}
 use Rattle.ax_log.specs.Answers.{AreOf, aggregate_of}
@@ -16,9 +23,9 @@ use Rattle.ax_sheet.specs.Sheet.{Sheet, command_fits}
 use Rattle.ax_claims.specs.Rows.{TokenRow}
 use Rattle.ax_state.specs.Every.{AllFrom, count}
 use Rattle.ax_state.specs.Setting.{Setting, name_at, is_projection, is_saga, projection_at, whole_at, needs_no_gaps}
-use Rattle.ax_state.specs.State.{State, ProcessorState, Notice, Desk, Batch, Reservation}
-use Rattle.ax_state.specs.Positions.{first_in}
-use Rattle.ax_state.specs.Portions.{Portion, portions, covered_by, covered_events, row_by}
+use Rattle.ax_state.specs.State.{State, ProcessorState, Notice, Desk, Batch, Reservation, Grip}
+use Rattle.ax_state.specs.Positions.{first_in, undropped}
+use Rattle.ax_state.specs.Portions.{Portion, portions, covered_by, covered_events, items_in, items_under, position_by, row_by}
 use Rattle.ax_values.specs.declared.cell.Cell.{Cell}
 
 -- ---- the sheet
@@ -34,8 +41,13 @@ reserved_by now (Cell.Reserved a s w t) = t ≤ now
 reserved_by now Cell.Void = Unit {0}
 reserved_by now (Cell.Event r) = Unit {0}
 
-abbrev pub IsProcessorBy : ℕ → ProcessorState → Type 0
-IsProcessorBy now processor_state = AllByRecursion (λ r. r.since ≤ now) processor_state.rows
+pub record IsSequenceBy (now : ℕ) (s : Sequence) : Type 0 where
+  pub letters : AllByRecursion (λ l. l.touched ≤ now) s.letters
+  pub taken : IfSome s.taken (λ t. t.since ≤ now)
+
+pub record IsProcessorBy (now : ℕ) (processor_state : ProcessorState) : Type 0 where
+  pub rows : AllByRecursion (λ r. r.since ≤ now) processor_state.rows
+  pub queue : AllByRecursion (IsSequenceBy now) processor_state.queue
 
 -- no moment is after the clock
 pub record IsClock (now : ℕ) (cells : List Cell) (processor_states : List ProcessorState) : Type 0 where
@@ -130,15 +142,6 @@ TokenPrefix whole es s t = (a : Name) → matches s (hash_in whole a) ≡ true �
 abbrev pub HasRows : Setting → ℕ → List Stored → (Name → Option ItemName) → List ItemName → Type 0
 HasRows setting p cs first drops = IsTrue (is_projection setting p) → (a : Name) → IsOk (row_by (projection_at setting p) setting.sheet.chain cs (first a) drops a)
 
--- all that is read off events and portions
-pub record IsFolded (setting : Setting) (whole : Option Name) (p : ℕ) (es : List Stored) (ps : List Portion) (first : Name → Option ItemName) (drops : List ItemName) : Type 0 where
-  pub prefixes : CoverPrefix whole es ps
-  pub rows : HasRows setting p (covered_events whole ps es) first drops
-
--- a row without an owner has claim time 0
-abbrev pub IsOwnedRight : TokenRow → Type 0
-IsOwnedRight r = r.owner ≡ None → r.since ≡ 0
-
 -- ---- letters, drops and marks
 
 abbrev pub item_below : ItemName → ItemName → Bool
@@ -150,21 +153,54 @@ pub record AreParked (processor_state : ProcessorState) : Type 0 where
   pub drops : IsTrue (rises item_below processor_state.drops)
   pub marks : IsTrue (rises item_below processor_state.marks)
 
--- nothing is parked and nothing dropped: no step does either yet
-pub record IsBare (processor_state : ProcessorState) : Type 0 where
-  pub letters : processor_state.queue ≡ []
+-- a letter as an item of the log
+abbrev pub placed_letter : Letter → Placed
+placed_letter l = record { index = l.index; item = l.item }
+
+-- the items from that of the first letter on
+abbrev pub from_first : List Letter → List Placed → List Placed
+from_first [] xs = []
+from_first (l ∷ ls) xs = drop (place_where (λ x. same_item x.item.name l.item.name) xs) xs
+
+-- of the covered events cs: the letters of a sequence are its items from the first letter on, without the dropped ones
+abbrev pub AreLettersOf : Option Name → List Upcaster → List Stored → Queue → List ItemName → Name → Type 0
+AreLettersOf whole chain cs queue drops s = map placed_letter (letters_of s queue) ≡ undropped drops (from_first (letters_of s queue) (items_under whole chain cs s))
+
+-- a dropped item is covered
+abbrev pub IsDropOf : List Upcaster → List Stored → ItemName → Type 0
+IsDropOf chain cs x = IsTrue (contains_item x (map (λ y. y.item.name) (items_in chain cs x.aggregate)))
+
+-- all that is read off the covered events cs, letters and drops
+pub record IsFoldedBy (setting : Setting) (whole : Option Name) (p : ℕ) (cs : List Stored) (queue : Queue) (drops : List ItemName) : Type 0 where
+  pub rows : HasRows setting p cs (first_in whole queue) drops
+  pub letters : (s : Name) → AreLettersOf whole setting.sheet.chain cs queue drops s
+  pub dropped : AllByRecursion (IsDropOf setting.sheet.chain cs) drops
+
+-- and of the events es and portions that these are the covered ones of
+pub record IsFolded (setting : Setting) (whole : Option Name) (p : ℕ) (es : List Stored) (ps : List Portion) (queue : Queue) (drops : List ItemName) : Type 0 where
+  pub prefixes : CoverPrefix whole es ps
+  pub covered : IsFoldedBy setting whole p (covered_events whole ps es) queue drops
+
+-- a processor of sagas parks, drops and marks nothing
+pub record IsUnparked (processor_state : ProcessorState) : Type 0 where
+  pub queue : processor_state.queue ≡ []
   pub drops : processor_state.drops ≡ []
+  pub marks : processor_state.marks ≡ []
+
+-- a row without an owner has claim time 0
+abbrev pub IsOwnedRight : TokenRow → Type 0
+IsOwnedRight r = r.owner ≡ None → r.since ≡ 0
 
 -- what holds of the processor_state of the processor p
 pub record IsProcessorState (setting : Setting) (cells : List Cell) (p : ℕ) (processor_state : ProcessorState) : Type 0 where
   pub parts : AreParts (portions processor_state.rows)
   pub tokens : AreTokens cells (portions processor_state.rows)
-  pub folded : IsFolded setting (whole_at setting p) p (events cells) (portions processor_state.rows) (first_in (whole_at setting p) processor_state.queue) processor_state.drops
+  pub folded : IsFolded setting (whole_at setting p) p (events cells) (portions processor_state.rows) processor_state.queue processor_state.drops
   pub gaps : IsTrue (needs_no_gaps setting p) → AllByRecursion (λ x. IsTrue (has_no_gaps x.token)) (portions processor_state.rows)
   pub replays : IsTrue (is_saga setting p) → AllByRecursion (λ x. IsTrue (has_no_replay x.token)) (portions processor_state.rows)
   pub owners : AllByRecursion IsOwnedRight processor_state.rows
   pub parked : AreParked processor_state
-  pub bare : IsBare processor_state
+  pub unparked : IsTrue (is_saga setting p) → IsUnparked processor_state
 
 -- ---- notices
 
@@ -182,14 +218,24 @@ pub record AreNotices (setting : Setting) (ns : List Notice) : Type 0 where
 
 -- ---- fences
 
+abbrev pub is_taken_as : ℕ → Option Taken → Bool
+is_taken_as f None = false
+is_taken_as f (Some t) = t.number == f
+
+-- how often a number is the fence of a row or that of a take
+abbrev pub state_count : ℕ → ProcessorState → ℕ
+state_count f s = count (λ r. r.fence == f) s.rows + count (λ q. is_taken_as f q.taken) s.queue
+
 abbrev pub fence_count : ℕ → List ProcessorState → ℕ
 fence_count f [] = 0
-fence_count f (s ∷ ss) = count (λ r. r.fence == f) s.rows + fence_count f ss
+fence_count f (s ∷ ss) = state_count f s + fence_count f ss
 
-abbrev pub IsFencedProcessor : ℕ → ProcessorState → Type 0
-IsFencedProcessor fence s = AllByRecursion (λ r. (0 < r.fence) × (r.fence ≤ fence)) s.rows
+-- a take that was loaded has number 0
+pub record IsFencedProcessor (fence : ℕ) (s : ProcessorState) : Type 0 where
+  pub rows : AllByRecursion (λ r. (0 < r.fence) × (r.fence ≤ fence)) s.rows
+  pub takes : AllByRecursion (λ q. IfSome q.taken (λ t. t.number ≤ fence)) s.queue
 
--- the fences of rows are distinct, above 0 and at most the counter
+-- the fences of rows and the numbers of takes, 0 apart, are distinct and at most the counter; no fence is 0
 pub record AreFenced (fence : ℕ) (processor_states : List ProcessorState) : Type 0 where
   pub distinct : (f : ℕ) → 0 < f → fence_count f processor_states ≤ 1
   pub within : AllByRecursion (IsFencedProcessor fence) processor_states
@@ -202,6 +248,15 @@ OwnsRow actor q s fence k r = r.fence ≡ fence → (k ≡ q) × (r.segment ≡ 
 
 abbrev pub OwnsAs : Name → List ProcessorState → ℕ → Segment → ℕ → Type 0
 OwnsAs actor processor_states q s fence = AllFrom (λ k processor_state. AllByRecursion (OwnsRow actor q s fence k) processor_state.rows) 0 processor_states
+
+-- what a desk has taken under the number of a take, it has taken of that take's processor and sequence
+abbrev pub HoldsTake : Grip → ℕ → Sequence → Type 0
+HoldsTake g k s = IfSome s.taken (λ t. t.number ≡ g.number → (k ≡ g.processor) × (s.name ≡ g.sequence))
+
+pub record IsGripOf (setting : Setting) (fence : ℕ) (processor_states : List ProcessorState) (g : Grip) : Type 0 where
+  pub declared : IsTrue (is_projection setting g.processor)
+  pub number : (0 < g.number) × (g.number ≤ fence)
+  pub takes : AllFrom (λ k processor_state. AllByRecursion (HoldsTake g k) processor_state.queue) 0 processor_states
 
 pub record IsDeskOf (fence : ℕ) (processor_states : List ProcessorState) (actor : Name) (desk : Desk) : Type 0 where
   pub held : AllByRecursion (λ h. (h.fence ≤ fence) × OwnsAs actor processor_states h.processor h.segment h.fence) desk.held
@@ -223,23 +278,43 @@ pub record Advanced (cells : List Cell) (old new : Token) : Type 0 where
   pub settled : AllByRecursion (λ i. IsTrue (is_settled cells i)) added
   pub new_is : new ≡ collapsed (with_added (contains added) bound old)
 
--- Of a batch whose row, with the token t, stands under the batch's fence: it keeps what is asked of the row's token, and of the tokens of the row's processor.
-pub record IsStanding (setting : Setting) (cells : List Cell) (b : Batch) (t : Token) : Type 0 where
+-- What was read of a sequence's letters still holds; of a whole processor they may all have gone since.
+abbrev pub IsParkedRight : Option Name → Bool → Bool → Type 0
+IsParkedRight None read now = read ≡ now
+IsParkedRight (Some name) read now = IsTrue now → IsTrue read
+
+-- Of what was read of an aggregate, by the events cs that the batch's segment had covered: the position has not fallen; where it stands, so do the row and whether there are letters.
+pub record IsReadRight (setting : Setting) (p : ℕ) (cs : List Stored) (queue : Queue) (drops : List ItemName) (x : Member) : Type 0 where
+  pub position : x.seen.position ≤ position_by setting.sheet.chain cs (first_in (whole_at setting p) queue x.aggregate) x.aggregate
+  pub parked : x.seen.position ≡ position_by setting.sheet.chain cs (first_in (whole_at setting p) queue x.aggregate) x.aggregate → IsParkedRight (whole_at setting p) x.seen.parked (is_parked (sequence_in (whole_at setting p) x.aggregate) queue)
+  pub row : x.seen.position ≡ position_by setting.sheet.chain cs (first_in (whole_at setting p) queue x.aggregate) x.aggregate → row_by (projection_at setting p) setting.sheet.chain cs (first_in (whole_at setting p) queue x.aggregate) drops x.aggregate ≡ Ok x.row
+
+-- one read for each aggregate of the batch's items, each right
+pub record AreReads (setting : Setting) (es : List Stored) (b : Batch) (queue : Queue) (drops : List ItemName) : Type 0 where
+  pub names : map (λ x. x.aggregate) b.reads ≡ aggregates_among (batch_items (whole_at setting b.processor) setting.sheet.chain b es)
+  pub each : AllByRecursion (IsReadRight setting b.processor (known_events (whole_at setting b.processor) b es) queue drops) b.reads
+
+-- Of a batch whose row, with the token t, stands under the batch's fence, in a processor with these letters and drops: it keeps what is asked of the row's token, and of the tokens of the row's processor.
+pub record IsStanding (setting : Setting) (cells : List Cell) (b : Batch) (queue : Queue) (drops : List ItemName) (t : Token) : Type 0 where
   pub old : b.old ≡ t
+  pub before : IsTokenOver cells b.segment.mask b.old
   pub new : Advanced cells b.old b.new
   pub token : IsTokenOver cells b.segment.mask b.new
   pub prefixes : TokenPrefix (whole_at setting b.processor) (events cells) b.segment b.new
   pub gaps : IsTrue (needs_no_gaps setting b.processor) → IsTrue (has_no_gaps b.new)
+  pub reads : AreReads setting (events cells) b queue drops
 
-abbrev pub IsBatchRow : Setting → List Cell → Batch → TokenRow → Type 0
-IsBatchRow setting cells b r = r.segment ≡ b.segment → r.fence ≡ b.fence → IsStanding setting cells b r.token
+abbrev pub IsBatchRow : Setting → List Cell → Batch → Queue → List ItemName → TokenRow → Type 0
+IsBatchRow setting cells b queue drops r = r.segment ≡ b.segment → r.fence ≡ b.fence → IsStanding setting cells b queue drops r.token
 
 -- of the processor_state of the processor q
 abbrev pub IsBatchAt : Setting → List Cell → Batch → ℕ → ProcessorState → Type 0
-IsBatchAt setting cells b q processor_state = q ≡ b.processor → AllByRecursion (IsBatchRow setting cells b) processor_state.rows
+IsBatchAt setting cells b q s = q ≡ b.processor → AllByRecursion (IsBatchRow setting cells b s.queue s.drops) s.rows
 
+-- each row that was read has a number for each declared field
 pub record IsBatchIn (setting : Setting) (cells : List Cell) (processor_states : List ProcessorState) (b : Batch) : Type 0 where
   pub declared : IsTrue (is_projection setting b.processor)
+  pub fit : AllByRecursion (λ x. IsTrue (row_fits (projection_at setting b.processor) x.row)) b.reads
   pub rows : AllFrom (IsBatchAt setting cells b) 0 processor_states
 
 -- ---- the whole
@@ -255,4 +330,5 @@ pub record IsWellFormed (m : State) : Type 0 where
   pub notices : AreNotices m.setting m.notices
   pub fences : AreFenced m.fence m.processor_states
   pub desks : AllFrom (λ k d. IsDeskOf m.fence m.processor_states (name_at m.setting.actors k) d) 0 m.desks
+  pub grips : AllByRecursion (λ d. IfSome d.taken (IsGripOf m.setting m.fence m.processor_states)) m.desks
   pub batches : AllByRecursion (λ d. IfSome d.batch (IsBatchIn m.setting m.cells m.processor_states)) m.desks

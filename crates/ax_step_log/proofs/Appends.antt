@@ -14,7 +14,7 @@ use Rattle.ax_state.specs.Setting.{name_at}
 use Rattle.ax_state.specs.State.{Desk, Reservation, with_cells}
 use Rattle.ax_state.specs.Answer.{Answer, answer}
 use Rattle.ax_state.specs.WellFormed.{IsReservation}
-use Rattle.ax_state.specs.Batches.{IsBasisOf}
+use Rattle.ax_state.specs.Bases.{IsBasisOf}
 use Rattle.ax_state.proofs.Fill.{fill-growth}
 use Rattle.ax_state.proofs.Grow.{grows-growth}
 use Rattle.ax_state.proofs.Growth.{IsGrowth}

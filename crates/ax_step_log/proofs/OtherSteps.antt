@@ -12,7 +12,7 @@ use Rattle.ax_state.specs.Answer.{answer}
 use Rattle.ax_state.specs.WellFormed.{IsWellFormed}
 use Rattle.ax_state.proofs.Frames.{kept-clock}
 use Rattle.ax_state.proofs.Desks.{kept-empty}
-use Rattle.ax_state.specs.Batches.{IsBasisOf}
+use Rattle.ax_state.specs.Bases.{IsBasisOf}
 use Rattle.ax_state.proofs.Bases.{bases-later}
 use Rattle.ax_state.proofs.Grow.{grows-events, grows-growth}
 use Rattle.ax_world.specs.WorldTables.{WorldTables, no_desk, state_of}

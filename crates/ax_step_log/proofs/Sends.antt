@@ -11,7 +11,7 @@ use Rattle.ax_log.specs.Puts.{CanPutAll, put_all, puts_at}
 use Rattle.ax_state.specs.Every.{AllFrom, option_or}
 use Rattle.ax_state.specs.State.{Desk, Reservation, desk_at, empty_desk, actor_name, with_cells}
 use Rattle.ax_state.specs.Answer.{Answer, answer}
-use Rattle.ax_state.specs.Batches.{IsBasisOf}
+use Rattle.ax_state.specs.Bases.{IsBasisOf}
 use Rattle.ax_state.proofs.Grow.{events-few, grows-append, grows-events, grows-growth}
 use Rattle.ax_world.specs.WorldTables.{WorldTables, DeskTables, desk_of, state_of}
 use Rattle.ax_world.specs.EditsApplied.{edits_applied}

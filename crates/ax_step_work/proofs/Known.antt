@@ -23,7 +23,7 @@ use Rattle.ax_state.proofs.Prefixes.{same-filter, covered-stream}
 use Rattle.ax_state.proofs.Lists.{All-map}
 use Rattle.ax_step_work.specs.Sharing.{item_names, is_item_of, single_of, single_shares}
 use Rattle.ax_step_work.proofs.Folding.{stream-filter, share_of}
-use Rattle.ax_step_work.proofs.Names.{names-given}
+use Rattle.ax_state.proofs.Names.{names-given}
 use Rattle.ax_basis.specs.Basis.{Share}
 use Rattle.ax_basis.specs.declared.item.BasisItem.{BasisItem}
 use Rattle.ax_basis.specs.declared.item.Member.{Member}

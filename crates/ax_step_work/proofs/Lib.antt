@@ -2,7 +2,6 @@ pub mod Advancing
 pub mod Covering
 pub mod FetchKept
 pub mod Folding
-pub mod Names
 pub mod Singles
 pub mod SharePlaces
 pub mod Tables

@@ -17,7 +17,7 @@ use Rattle.ax_state.proofs.Lists.{All-map}
 use Rattle.ax_step_work.specs.Working.{ItemOutcome, item_outcomes, share_outcomes, is_unapplied, first_unapplied}
 use Rattle.ax_step_work.specs.Sharing.{member_at, item_names, is_item_of, single_of, single_shares}
 use Rattle.ax_step_work.specs.Installing.{share_items, entries_by, share_entries, entries_after}
-use Rattle.ax_step_work.proofs.Names.{RisingNames, names-rise, any-names, above, rest-rises, same-by, all-any}
+use Rattle.ax_state.proofs.Names.{RisingNames, names-rise, any-names, above, rest-rises, same-by, all-any}
 use Rattle.ax_step_work.proofs.Tables.{look-first}
 use Rattle.std.specs.declared.cmp.Ordering.TheVariants.{Less}
 use Rattle.ax_rules.specs.declared.cause.Cause.{Cause}

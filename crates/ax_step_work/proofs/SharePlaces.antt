@@ -13,7 +13,7 @@ use Rattle.ax_values.proofs.Rising.{put-found, put-none, rises-first, rises-nond
 use Rattle.ax_projections.proofs.NameLaws.{name-sym}
 use Rattle.ax_basis.specs.Basis.{Share}
 use Rattle.ax_step_work.specs.Sharing.{share_cmp, share_below, IsPlaceOf}
-use Rattle.ax_step_work.proofs.Names.{same-by, equal-is}
+use Rattle.ax_state.proofs.Names.{same-by, equal-is}
 
 share_total : IsTotalOrder share_cmp
 share_total = on_total (λ (s : Share). s.sequence) nat_list_cmp_total

@@ -18,7 +18,7 @@ use Rattle.ax_state.specs.State.{Batch}
 use Rattle.ax_state.specs.Batches.{names_with, rising_names, sequence_items, share_of_items, shares_among, basis_item}
 use Rattle.ax_state.proofs.Lists.{All-map}
 use Rattle.ax_step_work.specs.Sharing.{item_names, is_item_of, single, single_of, single_shares, share_cmp, share_below, HasShare, LacksShare}
-use Rattle.ax_step_work.proofs.Names.{same-by, equal-is, RisingNames, names-rise, names-more, any-names, names-given, above, rest-rises, name-stays}
+use Rattle.ax_state.proofs.Names.{same-by, equal-is, RisingNames, names-rise, names-more, any-names, names-given, above, rest-rises, name-stays}
 use Rattle.ax_basis.specs.declared.item.BasisItem.{BasisItem}
 use Rattle.ax_basis.specs.declared.item.Member.{Member}
 

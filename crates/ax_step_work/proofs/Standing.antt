@@ -17,7 +17,7 @@ use Rattle.ax_step_work.specs.Sharing.{member_read, item_names, is_item_of, sing
 use Rattle.ax_step_work.specs.Installing.{entries_after}
 use Rattle.ax_step_work.proofs.Folding.{share_of, row_behind}
 use Rattle.ax_step_work.proofs.Known.{none-placed, some-placed, placed_names}
-use Rattle.ax_step_work.proofs.Names.{names-rise, names-given}
+use Rattle.ax_state.proofs.Names.{names-rise, names-given}
 use Rattle.ax_step_work.proofs.Outcomes.{only_items, fold-at, value_then, row-made, entry_then, entries-are, look-then, names-then, rising-differ}
 use Rattle.ax_step_work.proofs.Singles.{items, names-same, own-same}
 use Rattle.ax_step_work.proofs.Tables.{first_of, present, no-more}

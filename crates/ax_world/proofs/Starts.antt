@@ -7,7 +7,7 @@ use Rattle.ax_state.specs.Every.{AllFrom}
 use Rattle.ax_state.specs.Setting.{Setting, IsSetting, whole_at}
 use Rattle.ax_state.specs.State.{ProcessorState, Notice, empty_desk, first_processors, row_count, start}
 use Rattle.ax_state.specs.WellFormed.{IsWellFormed, AreCommands}
-use Rattle.ax_state.specs.Batches.{IsBasisOf}
+use Rattle.ax_state.specs.Bases.{IsBasisOf}
 use Rattle.ax_state.proofs.Starting.{starts}
 use Rattle.ax_world.specs.WorldTables.{ProcessorTables, DeskTables, desk_of, no_desk, bare, all_bare, starting, state_of}
 use Rattle.ax_world.specs.Fits.{IsWorld, IsTable}

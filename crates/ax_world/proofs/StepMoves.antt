@@ -7,7 +7,7 @@ use Rattle.ax_state.specs.Every.{AllFrom, count}
 use Rattle.ax_state.specs.Setting.{Setting, whole_at}
 use Rattle.ax_state.specs.Portions.{portions}
 use Rattle.ax_state.specs.WellFormed.{IsProcessorState, IsWellFormed}
-use Rattle.ax_state.specs.Batches.{IsBasisOf}
+use Rattle.ax_state.specs.Bases.{IsBasisOf}
 use Rattle.ax_state.specs.Answer.{Answer, answer}
 use Rattle.ax_state.proofs.Growth.{IsGrowth, covered-later}
 use Rattle.ax_state.proofs.Bases.{bases-later}

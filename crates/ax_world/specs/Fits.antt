@@ -13,7 +13,7 @@ use Rattle.ax_state.specs.State.{ProcessorState}
 use Rattle.ax_state.specs.Positions.{first_in}
 use Rattle.ax_state.specs.Portions.{portions, covered_events, position_by, row_by}
 use Rattle.ax_state.specs.WellFormed.{IsWellFormed, item_below}
-use Rattle.ax_state.specs.Batches.{IsBasisOf}
+use Rattle.ax_state.specs.Bases.{IsBasisOf}
 use Rattle.ax_world.specs.WorldTables.{WorldTables, ProcessorTables, Room, state_of, processor_tables_at, room_at}
 use Rattle.ax_world.specs.EditsApplied.{edit_applied, edits_applied}
 use Rattle.ax_projections.specs.declared.table.Positioned.{Positioned}
